@@ -1,0 +1,4 @@
+pub mod Program
+pub mod Layout
+pub mod Keeps
+pub mod Meant
