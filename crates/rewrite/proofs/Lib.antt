@@ -1,0 +1,4 @@
+pub mod Fitting
+pub mod Lists
+pub mod Reach
+pub mod Shapes

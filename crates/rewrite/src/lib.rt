@@ -1,0 +1,14 @@
+//! Rewriting steps on a working word, and the judging of a derivation step by step.
+
+mod apply;
+mod look;
+mod replay;
+mod splice;
+mod working;
+
+pub use working::Denied;
+pub use working::Question;
+pub use working::Rule;
+pub use working::Step;
+pub use working::Stopped;
+pub use working::Working;
