@@ -11,11 +11,15 @@ use crate::look::ask;
 use crate::look::fits;
 use crate::look::rule_of;
 use crate::working::Denied;
+use crate::working::Question;
 use crate::working::Rule;
 use crate::working::Step;
 use crate::working::Working;
 use ordering::Model;
 use trace::Event;
+
+// How many events a working word has at most.
+const MOST: usize = 48;
 
 impl Working {
     // Puts in the place of two events what the rule leaves of them.
@@ -64,7 +68,7 @@ impl Working {
         if step.location >= l || step.value >= v || p > self.len {
             return Err(Denied::Misfit);
         }
-        if self.len == 48 {
+        if self.len == MOST {
             return Err(Denied::Overlong);
         }
         self.splice(p, 0, &[Event::Load { location: step.location, value: step.value }]);

@@ -16,8 +16,8 @@ impl Working {
         ensures sure { λ _. ⌜ StepsAreSure ⌝ }
         ensures reach { λ _. ⌜ ChainsReach (meaning (now (model .entry))) ⌝ }
     {
-        for (i, step) in steps.iter().enumerate() {
-            match self.apply(model, *step, v, l) {
+        for i in 0..steps.len() {
+            match self.apply(model, steps[i], v, l) {
                 Ok(()) => {}
                 Err(why) => return Err(Stopped { step: i, why }),
             }

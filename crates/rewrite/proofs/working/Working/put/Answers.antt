@@ -10,8 +10,8 @@ use Rattle.rewrite.proofs.working.Working.put.Needs as need
 pub returns-then-step-l : need.returns-then-step-l
 returns-then-step-l c m = (refl, λ w q F. let (a, b, d) = fit-put F (c .pre) in let n = word-long (c .args .self .now) in elim (c .then-step-l .came) [ need.then-step-l·by·then-step-l y ↦ omega arith | need.then-step-l·by·else-step-l·then-step-v y ↦ omega arith | need.then-step-l·by·else-step-l·else-step-v·then-p-self y ↦ omega arith ])
 
-pub returns-then-self-eq48 : need.returns-then-self-eq48
-returns-then-self-eq48 c m =
+pub returns-then-self-eq-MOST : need.returns-then-self-eq-MOST
+returns-then-self-eq-MOST c m =
     let W = c .args .self .now in
     let s = c .args .step in
     let n = word-long W in
