@@ -1,0 +1,9 @@
+pub mod Laying
+pub mod Blocks
+pub mod Holds
+pub mod Flat
+pub mod Inverse
+pub mod Sound
+pub mod Complete
+pub mod Count
+pub mod Bodies

@@ -1,0 +1,4 @@
+pub mod Active
+pub mod History
+pub mod Promise
+pub mod Standing

@@ -1,0 +1,3 @@
+pub mod Valid
+pub mod Judged
+pub mod Performed

@@ -1,0 +1,4 @@
+pub mod Program
+pub mod Encoded
+pub mod Meant
+pub mod File
