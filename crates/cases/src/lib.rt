@@ -4,14 +4,14 @@ mod active;
 mod ask;
 mod case;
 mod hand;
-mod play;
+mod script;
 mod seal;
 mod sealed;
 mod tally;
 
 pub use case::Case;
-pub use play::Call;
-pub use play::Standing;
-pub use play::play;
+pub use script::Call;
+pub use script::Standing;
+pub use script::play;
 pub use sealed::Sealed;
 pub use tally::Tally;

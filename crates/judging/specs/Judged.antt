@@ -31,7 +31,7 @@ causeOf denied.Overlong = Overlong
 -- What comes of steps on the word a with end registers s, which should lead to the word b with end registers t.
 pub data Settled (m : Meaning) (v l : ℕ) (ss : List Step) (a b : Word) (s t : Registers) : Result (Unit {0}) Refusal → Type 0 where
   -- 13, 14, 15: the first step that is denied
-  stopped : {w : Word} {e : Stopped} → Replayed m v l ss a (Err e) w → Settled m v l ss a b s t (Err (refusal (causeOf (e .why)) (e .step)))
+  stopped : {w : Word} (e : Stopped) → Replayed m v l ss a (Err e) w → Settled m v l ss a b s t (Err (refusal (causeOf (e .why)) (e .step)))
   -- 16: all steps are taken, and lead elsewhere
   elsewhere : {w : Word} → Chain m v l ss a w → ((w ≡ b) × (s ≡ t) → ⊥) → Settled m v l ss a b s t (Err (refusal Ending 0))
   reached : Chain m v l ss a b → s ≡ t → Settled m v l ss a b s t (Ok tt)

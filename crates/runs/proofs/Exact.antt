@@ -16,7 +16,7 @@ use Rattle.snippet.specs.Keeps.{Sizes}
 use Rattle.runs.specs.Behaviours.{behavesB, behavesC, StartRegisters, Behaves}
 use Rattle.runs.specs.Runs.{digits, first, others, Run, ran, runB, runC, startOf, choicesOf, runOf, nonzero, count, Active}
 use Rattle.runs.specs.Exact.{Shows, BehavioursAreRuns}
-use Rattle.runs.proofs.Digits.{number, digits-length, digits-small, number-digits, digits-number, number-below, digits-split}
+use Rattle.runs.proofs.Digits.{number, digits-length, digits-small, number-digits, digits-number, number-below, digits-split, lower-digits, upper-digits}
 
 -- The choices that a word shows.
 abbrev chosen : Word → List ℕ
@@ -238,26 +238,20 @@ module _ (m : Sizes) (b : Block) (two : 2 ≤ m .values) where
     unfolding count
     the-run = rw (← long) (number-below (m .values) (s ++ ch) both)
 
-    the-digits : startOf m the-number ++ choicesOf m b the-number ≡ s ++ ch
-    unfolding startOf choicesOf
-    the-digits =
-      sym (digits-split (m .values) (m .registers) (choicesB b) the-number)
-      ∙ ap (λ (n : ℕ). digits (m .values) n the-number) (sym long)
-      ∙ digits-number (m .values) (s ++ ch) both
-
-    start-length : length (startOf m the-number) ≡ m .registers
-    unfolding startOf
-    start-length = digits-length (m .values) (m .registers) the-number
+    the-digits : digits (m .values) (m .registers + choicesB b) the-number ≡ s ++ ch
+    the-digits = ap (λ (n : ℕ). digits (m .values) n the-number) (sym long) ∙ digits-number (m .values) (s ++ ch) both
 
     the-start : startOf m the-number ≡ s
+    unfolding startOf
     the-start =
-      sym (take-at (startOf m the-number) (choicesOf m b the-number) (m .registers) start-length)
+      sym (lower-digits (m .values) (m .registers) (choicesB b) the-number)
       ∙ ap (take (m .registers)) the-digits
       ∙ take-at s ch (m .registers) (start .many)
 
     the-choices : choicesOf m b the-number ≡ ch
+    unfolding choicesOf
     the-choices =
-      sym (drop-at (startOf m the-number) (choicesOf m b the-number) (m .registers) start-length)
+      sym (upper-digits (m .values) (m .registers) (choicesB b) the-number)
       ∙ ap (drop (m .registers)) the-digits
       ∙ drop-at s ch (m .registers) (start .many)
 

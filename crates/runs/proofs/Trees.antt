@@ -19,7 +19,7 @@ ending-by false at count to e h = let k = ltb-false (to - at) count e in (omega 
 ending-within : (at count to : ℕ) → at ≤ to → (at ≤ ending at count to) × (ending at count to ≤ to)
 ending-within at count to h = ending-by (ltb (to - at) count) at count to refl h
 
-pub after-within : (n : Statement) (at to : ℕ) → at < to → (at < after n at to) × (after n at to ≤ to)
+after-within : (n : Statement) (at to : ℕ) → at < to → (at < after n at to) × (after n at to ≤ to)
 after-within Skip at to h = (omega arith, omega arith)
 after-within (Load a b) at to h = (omega arith, omega arith)
 after-within (Store a b) at to h = (omega arith, omega arith)

@@ -80,8 +80,8 @@ block-laid ns ns′ b len e n h =
     let w : ns′ ≡ flatB b ++ drop (0 + length (flatB b)) ns = e ∙ sets-eq (flatB b) ns 0 (omega arith) in
     layoutB ns′ b 0 len (rw w (front Skip _ 0 (flatB b) _ (self Skip (flatB b ++ drop (0 + length (flatB b)) ns)))) n
 
-pub same-ok : {x y : Block} → x ≡ y → _≡_ {A = Result Block Refusal} (Ok x) (Ok y)
-same-ok e = ap (λ (z : Block). Ok z) e
+pub read-laid : {p : Result Block Refusal} (ns ns′ : List Statement) (b : Block) (len : ℕ) → p ≡ Ok b → ns′ ≡ sets ns 0 (flatB b) → len ≡ 0 + sizeB b → len ≤ length ns → p ≡ Ok (block ns′ 0 len)
+read-laid ns ns′ b len q e n h = q ∙ ap (λ (z : Block). Ok z) (sym (block-laid ns ns′ b len e n h))
 
 pub front-laid : (ns ns′ : List Statement) (b : Block) (len : ℕ) → ns′ ≡ sets ns 0 (flatB b) → len ≡ 0 + sizeB b → len ≤ length ns → take len ns′ ≡ flatB (block ns′ 0 len)
 front-laid ns ns′ b len e n h =

@@ -1,9 +1,9 @@
 use borrow.Author.Needs.{needs}
-use mathlib.Core.Path.{refl, sym, ap, _∙_}
+use mathlib.Core.Path.{refl, ap, _∙_}
 use native.Mathlib.Omega.{arith}
 use Prim.Native.Nat.{suc, _-_}
 use Rattle.std.proofs.shelf.Results.{err-from-errBy}
-use Rattle.snippet.proofs.Flat.{block-laid, front-laid, same-ok}
+use Rattle.snippet.proofs.Flat.{block-laid, front-laid, read-laid}
 use Rattle.snippet.proofs.Sound.{soundB}
 use Rattle.snippet.specs.Program.{Block}
 use Rattle.snippet.specs.Keeps.{sizes, keepsB}
@@ -19,7 +19,7 @@ pub returns : need.returns
 returns c =
     let b = c .in-Continue-len .ensures tt .reads (suc (c .args .span .to - c .args .span .from)) (omega arith) in
     record {
-      gives = b .is ∙ same-ok (sym (block-laid _ _ (b .body) _ (b .laid) (b .count) (omega (arith, c .in-Continue-len .ensures tt .few))));
+      gives = read-laid _ _ (b .body) _ (b .is) (b .laid) (b .count) (omega (arith, c .in-Continue-len .ensures tt .few));
       limits = refl;
     }
 
