@@ -57,7 +57,7 @@ steps-back bs at (s ∷ ss) h =
     let rest = steps-back bs (at + 4) ss (moved 0 bs (at + 1 + 1 + 1 + 1) (at + 4) (encodeSteps ss) (omega arith) (h .1 .1 .1 .1)) in
     rw (h .0, h .1 .0, third, fourth, rest) refl
 
-sound : (bs : List ℕ) (d : Derivation) → Bytes bs → derivationAt bs ≡ Ok d → IsHandIn bs d
+pub sound : (bs : List ℕ) (d : Derivation) → Bytes bs → derivationAt bs ≡ Ok d → IsHandIn bs d
 sound bs d b e =
     let a = both (headerAt bs) _ d e in
     let h = header-ok bs (a .0) (a .1 .0) in
@@ -84,7 +84,7 @@ sound bs d b e =
         few = omega arith;
       }
 
-complete : (bs : List ℕ) (d : Derivation) → IsHandIn bs d → derivationAt bs ≡ Ok d
+pub complete : (bs : List ℕ) (d : Derivation) → IsHandIn bs d → derivationAt bs ≡ Ok d
 complete bs d i =
     let h : Holds 0 bs 0 (encodeHandIn d) = subst (λ (x : List ℕ). Holds 0 bs 0 x) (i .bytes) (self 0 bs) in
     let long = long-steps (d .steps) in

@@ -5,8 +5,9 @@ use mathlib.Core.Logic.{_⊎_, inl, inr}
 use mathlib.Core.Bool.{Bool, true, false}
 use Prim.Native.Nat.{ℕ, _+_, _<_, _≤_}
 use native.Mathlib.Omega.{arith}
-use lib.ListN.{length, getD, take, drop}
-use Rattle.std.proofs.shelf.Lists.{take-append-drop, drop-more, take-more, take-all, getD-default}
+use lib.ListN.{length, getD, take, drop, length-take}
+use Rattle.std.proofs.shelf.Lists.{take-append-drop, take-take, drop-more, take-more, take-all, getD-take, getD-default}
+use Rattle.std.proofs.shelf.Tests.{cases-order}
 use Rattle.std.specs.declared.result.Result.the-variants.{Ok, Err}
 use Rattle.trace.specs.Words.{Word}
 use Rattle.ordering.specs.Meaning.{Meaning}
@@ -14,6 +15,7 @@ use Rattle.surroundings.specs.Steps.{Relax, Invisible, here, rule3, rule4, rule
 use Rattle.surroundings.proofs.Commute.{relax-under}
 use Rattle.surroundings.proofs.Derived.{invisible-under}
 use Rattle.rewrite.specs.declared.working.Step.{Step}
+use Rattle.rewrite.specs.declared.working.Stopped.{Stopped}
 use Rattle.rewrite.specs.declared.working.Rule.{Rule}
 use Rattle.rewrite.specs.declared.working.Question.{Question}
 use Rattle.rewrite.specs.declared.working.Denied.{Denied}
@@ -88,3 +90,45 @@ module _ {m : Meaning} where
 
     pub ended : length ss ≤ i → Chain m v l ss w b
     ended h = subst (λ (y : List Step). Chain m v l y w b) (take-all i ss h) ch
+
+-- a step is denied for one reason
+denied-one : (m : Meaning) (v l : ℕ) (s : Step) (w : Word) (d d′ : Denied) → Applied m v l s w (Err d) w → Applied m v l s w (Err d′) w → d ≡ d′
+denied-one m v l s w Misfit Misfit a b = refl
+denied-one m v l s w Misfit Forbidden a b = absurd (a .1 (b .1 .0) (b .1 .1) (b .1 .2))
+denied-one m v l s w Misfit Overlong a b = absurd (a .1 (b .1 .0) (b .1 .1 .0) (b .1 .1 .1))
+denied-one m v l s w Forbidden Misfit a b = absurd (b .1 (a .1 .0) (a .1 .1) (a .1 .2))
+denied-one m v l s w Forbidden Forbidden a b = refl
+denied-one m v l s w Forbidden Overlong a b = absurd (a .2 (b .1 .0) (b .1 .1))
+denied-one m v l s w Overlong Misfit a b = absurd (b .1 (a .1 .0) (a .1 .1 .0) (a .1 .1 .1))
+denied-one m v l s w Overlong Forbidden a b = absurd (b .2 (a .1 .0) (a .1 .1))
+denied-one m v l s w Overlong Overlong a b = refl
+
+zero : Step
+zero = record { rule = 0; place = 0; location = 0; value = 0 }
+
+module _ {m : Meaning} {v l : ℕ} {ss : List Step} {a : Word} where
+  -- no chain goes past a step that is denied
+  not-past : (e : Stopped) (w w′ : Word) (j : ℕ) → Replayed m v l ss a (Err e) w → e .step < j → Chain m v l (take j ss) a w′ → ⊥
+  not-past e w w′ j r h c =
+      let i = e .step in
+      let n : i < length (take j ss) = simp length-take (omega (arith, r .0)) in
+      let split : take j ss ≡ take i ss ++ getD ss i zero ∷ drop (i + 1) (take j ss) =
+        sym (take-append-drop i (take j ss))
+        ∙ ap₂ (λ (x y : List Step). x ++ y) (take-take i j ss (omega arith)) (drop-more (take j ss) i zero n ∙ ap (λ (s : Step). s ∷ drop (i + 1) (take j ss)) (getD-take j ss i zero h)) in
+      no-chain (drop (i + 1) (take j ss)) (r .1) (λ x t k. refused v l (getD ss i zero) w w x (e .why) (r .2 zero) t k) (subst (λ (y : List Step). Chain m v l y a w′) split c)
+
+  -- the first step that is denied, and why, are certain
+  pub stopped-one : (e e′ : Stopped) (w w′ : Word) → Replayed m v l ss a (Err e) w → Replayed m v l ss a (Err e′) w′ → e ≡ e′
+  stopped-one e e′ w w′ r r′ =
+      elim (cases-order (e .step) (e′ .step)) [
+        inl same ↦
+          let c : Chain m v l (take (e .step) ss) a w′ = subst (λ (i : ℕ). Chain m v l (take i ss) a w′) (sym same) (r′ .1) in
+          let at : w′ ≡ w = chain-one c (r .1) in
+          let b : Applied m v l (getD ss (e .step) zero) w (Err (e′ .why)) w =
+            subst (λ (x : Word). Applied m v l (getD ss (e .step) zero) x (Err (e′ .why)) x) at (subst (λ (i : ℕ). Applied m v l (getD ss i zero) w′ (Err (e′ .why)) w′) (sym same) (r′ .2 zero)) in
+          ap₂ (λ (i : ℕ) (d : Denied). record { step = i; why = d }) same (denied-one m v l (getD ss (e .step) zero) w (e .why) (e′ .why) (r .2 zero) b)
+      | inr s ↦ elim s [
+          inl h ↦ absurd (not-past e w w′ (e′ .step) r h (r′ .1))
+        | inr h ↦ absurd (not-past e′ w′ w (e .step) r′ h (r .1))
+        ]
+      ]
