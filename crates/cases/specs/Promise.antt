@@ -41,10 +41,10 @@ pub record VerdictPromise (Sound : Type 0) (m : Meaning) (P : Program) (calls : 
   -- otherwise it is the lowest run that is not
   pub lowest : (k : ℕ) → v ≡ Some k → Replaces P k × (Matched m P k calls → ⊥) × ((j : ℕ) → j < k → Replaces P j → Matched m P j calls)
 
--- The count after the calls. No run has a number of 4,096 or above.
-pub record CountPromise (m : Meaning) (P : Program) (calls : List Call) (matched active : ℕ) : Type 0 where
-  pub matched : HowMany (λ k. Matched m P k calls) 4096 matched
-  pub active : HowMany (Replaces P) 4096 active
+-- The count after the calls: n runs are matched, and a are not idle. No run has a number of 4,096 or above.
+pub record CountPromise (m : Meaning) (P : Program) (calls : List Call) (n a : ℕ) : Type 0 where
+  pub matched : HowMany (λ k. Matched m P k calls) 4096 n
+  pub active : HowMany (Replaces P) 4096 a
 
 -- What is answered to a hand-in: none, or the first cause against it; accepted exactly if it is valid.
 abbrev pub HandInAnswer : Meaning → Program → List ℕ → Result (Unit {0}) Refusal → Type 0

@@ -4,14 +4,10 @@ mod active;
 mod ask;
 mod case;
 mod hand;
-mod script;
 mod seal;
 mod sealed;
 mod tally;
 
 pub use case::Case;
-pub use script::Call;
-pub use script::Standing;
-pub use script::play;
 pub use sealed::Sealed;
 pub use tally::Tally;

@@ -123,3 +123,10 @@ module _ {m : Meaning} {P : Program} where
   judged-one bs _ _ (accepted {d} p D) (unread {e} q) = absurd (no-ok e d (sym q ∙ p))
   judged-one bs _ _ (accepted {d} p D) (declined {d = d′} {e} q D′) = absurd (no-ok e tt (sym (decided-one D (to-same bs p q D′))))
   judged-one bs _ _ (accepted {d} p D) (accepted {d = d′} q D′) = ap (λ (z : Derivation). Ok (z .to)) (ok-inj d d′ (sym p ∙ q))
+
+-- a hand-in names at most one run
+pub names-one : {m : Meaning} {P : Program} {bs : List ℕ} {j k : ℕ} → Names m P bs j → Names m P bs k → j ≡ k
+names-one {bs = bs} n n′ =
+    let d = n .derivation in
+    let d′ = n′ .derivation in
+    sym (n .run) ∙ ap (λ (z : Derivation). z .to) (ok-inj d d′ (sym (complete bs d (n .file)) ∙ complete bs d′ (n′ .file))) ∙ n′ .run
