@@ -1,3 +1,4 @@
 pub mod Histories
 pub mod Promises
 pub mod Cases
+pub mod Plays

@@ -4,10 +4,15 @@ mod active;
 mod ask;
 mod case;
 mod hand;
+mod playing;
 mod seal;
+mod script;
 mod sealed;
 mod tally;
 
 pub use case::Case;
+pub use playing::play;
+pub use script::Call;
+pub use script::Standing;
 pub use sealed::Sealed;
 pub use tally::Tally;

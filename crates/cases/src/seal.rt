@@ -1,5 +1,9 @@
 ghost use mathlib.Core.Path.{_≡_};
-ghost use Rattle.cases.specs.Standing.{Verdict, Counted};
+ghost use mathlib.Core.List.{List};
+ghost use Rattle.pairs.specs.Meant.{meant};
+ghost use Rattle.cases.specs.History.{Call as Made};
+ghost use Rattle.cases.specs.Promise.{VerdictPromise, CountPromise, Unobservable};
+ghost use Rattle.cases.specs.Standing.{Verdict, Counted, Follows};
 use crate::case::Case;
 use crate::sealed::Sealed;
 use lines::Report;
@@ -11,6 +15,7 @@ impl<M: Model + Drop> Case<M> {
         ensures model { λ r. ⌜ r .model ≡ M·Model .number ⌝ }
         ensures count { λ r. ⌜ Counted self (r .matched) (r .active) ⌝ }
         ensures verdict { λ r. ⌜ Verdict self (r .lowest) ⌝ }
+        ensures promise { λ r. ⌜ ((h : List Made) → Follows (M·Model .meaning) self h → VerdictPromise (Unobservable (M·Model .meaning (self .model)) (meant (self .pair))) (M·Model .meaning (self .model)) (meant (self .pair)) h (r .lowest) × CountPromise (M·Model .meaning (self .model)) (meant (self .pair)) h (r .matched) (r .active)) ⌝ }
     {
         let tally = self.count();
         Sealed {
