@@ -1,24 +1,18 @@
 -- What is written, and what is read back.
 use mathlib.Core.Path.{_≡_, refl, sym, ap, _∙_}
 use mathlib.Core.List.{List, [], _∷_, _++_, append-assoc}
-use mathlib.Core.Bool.{cond, false}
-use Prim.Native.Nat.{ℕ, suc, _+_, _-_, _*_, _/_, _%_, _^_, _<_, _≤_}
-use native.Mathlib.Nat.{suc-add, add-suc, add-zero}
+use mathlib.Core.Bool.{false}
+use Prim.Native.Nat.{ℕ, _+_, _-_, _*_, _/_, _%_, _^_, _<_, _≤_}
 use native.Mathlib.Omega.{arith}
 use lib.Dec.{eqb, lit<, lit≤}
 use lib.ListN.{length, getD, set, take, drop}
-use lib.Seq.{sets, sets-eq}
+use lib.Seq.{sets}
 use Rattle.std.specs.Written.{decimal}
 use Rattle.std.proofs.shelf.Tests.{ne-eqb}
 use Rattle.std.proofs.shelf.Lists.{take-rest, length-append, length-push}
 use Rattle.std.proofs.shelf.Decimals.{decimal-by-steps, length-decimal-le}
+use Rattle.trace.proofs.Lists.{sets-append}
 use Rattle.lines.specs.Lines.{written, readOn, readLine, longest, Put}
-
-pub sets-append : (xs : List ℕ) (i : ℕ) (a b : List ℕ) → sets xs i (a ++ b) ≡ sets (sets xs i a) (i + length a) b
-sets-append xs i [] b = ap (λ k. sets xs k b) (sym (add-zero i))
-sets-append xs i (w ∷ a) b =
-    sets-append (set xs i w) (suc i) a b
-    ∙ ap (λ k. sets (sets (set xs i w) (suc i) a) k b) (suc-add i (length a) ∙ sym (add-suc i (length a)))
 
 -- A byte that is neither a space nor a line feed is a digit.
 read-digit : (n d : ℕ) (s : List ℕ) → readOn n ((48 + d) ∷ s) ≡ readOn (n * 10 + d) s
@@ -79,12 +73,6 @@ pub read-written : (n : ℕ) (ns : List ℕ) → Small (n ∷ ns) → readLine (
 unfolding readLine readOn written
 read-written n [] h = read-decimal n (h .0) (10 ∷ [])
 read-written n (m ∷ ns) h = read-decimal n (h .0) (32 ∷ written (m ∷ ns)) ∙ ap (λ ms. n ∷ ms) (read-written m ns (h .1))
-
--- What was put at the start of enough bytes.
-pub put-front : (ns old : List ℕ) → length ns ≤ length old → sets old 0 ns ≡ ns ++ drop (length ns) old
-put-front ns old h =
-    let l : 0 + length ns ≡ length ns = omega arith in
-    sets-eq ns old 0 (omega arith) ∙ ap (λ k. ns ++ drop k old) l
 
 -- Two digits and twenty, or three, five, five, one and five.
 pub answer-fits : (n p : ℕ) → n < 100 → p < 2 ^ 64 → length (written (n ∷ p ∷ [])) ≤ longest

@@ -2,14 +2,14 @@
 use mathlib.Core.Path.{_≡_, refl, sym, ap, ap₂, _∙_, subst}
 use mathlib.Core.Bool.{Bool, true, false, _&&_, _||_, not, cond}
 use mathlib.Core.Logic.{_⊎_, inl, inr}
-use Prim.Native.Nat.{ℕ, zero, suc, _+_, _-_, _*_, _/_, _%_, _^_, _<_, _≤_}
+use Prim.Native.Nat.{ℕ, zero, suc, _+_, _-_, _/_, _%_, _^_, _<_, _≤_}
 use native.Mathlib.Omega.{arith}
-use native.Mathlib.Nat.{div-div-eq-div-mul, pow-succ', div-eq-of-lt, mod-lt, div-one, pow-suc, one-mul, add-assoc, zero-add, add-zero, add-suc}
-use lib.Dec.{eqb, ltb, lit<}
-use lib.Bits.{bitAnd, bitOr, bitXor, and-shr, or-shr, xor-shr, and-mod, or-mod, xor-mod, shifted-half, shifted-even}
+use native.Mathlib.Nat.{div-div-eq-div-mul, pow-succ', mod-lt, div-one, pow-suc, one-mul, add-assoc, zero-add, add-zero, add-suc}
+use lib.Dec.{eqb, lit<}
+use lib.Bits.{bitAnd, bitOr, and-shr, or-shr, and-mod, or-mod, shifted-half, shifted-even}
 use lib.Count.{ones, trailingZeros, under, ones-step, ones-ones}
 use native.Mathlib.Numerals.{one-add}
-use lib.Pow.{pow-pos, shr-lt}
+use lib.Pow.{pow-pos}
 use Rattle.std.proofs.shelf.Tests.{eq-eqb, ne-eqb, cases-eq}
 use Rattle.marks.specs.Marks.{bit, countBelow}
 

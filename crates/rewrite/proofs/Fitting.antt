@@ -157,6 +157,3 @@ word-short W = omega (arith, W .ok, word-long W)
 -- an event of the word, as the code reads it
 pub word-at : (W : Working) (i : ℕ) (d : Event) → i < W .len → getD (W .events) i d ≡ getD (word W) i d
 word-at W i d h = sym (getD-take (W .len) (W .events) i d h)
-
-pub words-at : (V W : Working) (i : ℕ) (d : Event) → word V ≡ word W → i < V .len → i < W .len → getD (V .events) i d ≡ getD (W .events) i d
-words-at V W i d e h k = word-at V i d h ∙ ap (λ (w : Word). getD w i d) e ∙ sym (word-at W i d k)

@@ -1,5 +1,5 @@
 -- What the record of a snippet bounds: a run's word has at most one event for each statement, so at most 32.
-use mathlib.Core.Path.{_≡_, refl, ap, sym, _∙_}
+use mathlib.Core.Path.{_≡_, ap, sym, _∙_}
 use mathlib.Core.List.{List}
 use mathlib.Core.Bool.{Bool, true, false, cond}
 use Prim.Native.Nat.{ℕ, _+_, _^_, _≤_}
@@ -8,10 +8,10 @@ use lib.Dec.{eqb}
 use lib.ListN.{length, getD, set, take, length-append, length-take}
 use Rattle.trace.specs.Words.{Registers}
 use Rattle.snippet.specs.Program.{Block, Command, end, then, skip, load, store, constant, copy, sum, equal, compareAndSwap, fence, get, print, branch, declare, sizeB, sizeC}
-use Rattle.snippet.specs.Layout.{flatB, flatC}
 use Rattle.snippet.specs.Keeps.{Sizes}
 use Rattle.snippet.specs.Meant.{sizesOf, programOf}
 use Rattle.snippet.specs.declared.snippet.Snippet.{Snippet}
+use Rattle.snippet.proofs.Laying.{lengthB}
 use Rattle.runs.specs.Runs.{Run, runB, runC, runOf, startOf, choicesOf, wordOf, count}
 
 either : (c : Bool) (x y : Run) (m n : ℕ) → length (x .word) ≤ m → length (y .word) ≤ n → length (cond c x y .word) ≤ 1 + (n + m)
@@ -43,27 +43,7 @@ module _ (v : ℕ) where
     eventsC (branch a t e) ch r = either (eqb (getD r a 0) 0) (runB v e ch r) (runB v t ch r) (sizeB e) (sizeB t) (eventsB e ch r) (eventsB t ch r)
     eventsC (declare a x b) ch r = let h = eventsB b ch (set r a x) in omega arith
 
-mutual
-  lengthB : (b : Block) → length (flatB b) ≡ sizeB b
-  lengthB end = refl
-  lengthB (then s b) = let p = lengthC s in let q = lengthB b in omega (arith, length-append (flatC s) (flatB b))
-
-  lengthC : (s : Command) → length (flatC s) ≡ sizeC s
-  lengthC skip = refl
-  lengthC (load a L) = refl
-  lengthC (store L a) = refl
-  lengthC (constant a x) = refl
-  lengthC (copy a b) = refl
-  lengthC (sum a b c) = refl
-  lengthC (equal a b c) = refl
-  lengthC (compareAndSwap a L c d) = refl
-  lengthC fence = refl
-  lengthC (get a) = refl
-  lengthC (print a) = refl
-  lengthC (branch a t e) = let p = lengthB t in let q = lengthB e in omega (arith, length-append (flatB t) (flatB e))
-  lengthC (declare a x b) = let p = lengthB b in omega arith
-
-pub word-size : (m : Sizes) (b : Block) (k : ℕ) → length (wordOf m b k) ≤ sizeB b
+word-size : (m : Sizes) (b : Block) (k : ℕ) → length (wordOf m b k) ≤ sizeB b
 unfolding runOf
 word-size m b k = eventsB (m .values) b (choicesOf m b k) (startOf m k)
 

@@ -2,23 +2,17 @@
 use mathlib.Core.Path.{_≡_, refl, sym, ap, _∙_}
 use mathlib.Core.List.{List, [], _∷_, _++_, append-nil}
 use Prim.Native.Nat.{ℕ, suc, _+_, _≤_, _<_}
-use native.Mathlib.Nat.{add-zero, add-suc, suc-add}
 use native.Mathlib.Omega.{arith}
-use lib.ListN.{length, set, take, drop, length-append, length-take, take-append-drop}
-use lib.Seq.{sets, sets-eq, set-out, length-sets, drop-length}
+use lib.ListN.{length, take, drop, length-append, length-take, take-append-drop}
+use lib.Seq.{sets, set-out, length-sets, drop-length}
 use Rattle.std.specs.declared.result.Result.{Result}
 use Rattle.std.specs.declared.result.Result.the-variants.{Ok, Err}
 use Rattle.trace.specs.Words.{Word, Registers}
+use Rattle.trace.proofs.Lists.{sets-append, sets-start}
 use Rattle.snippet.specs.Program.{Block, Command, then}
 use Rattle.runs.specs.Runs.{Run, ran, runB, runC}
 use Rattle.runs.specs.Walk.{Finished, Ends}
 use Rattle.runs.specs.declared.full.Full.{Full}
-
-sets-append : (xs : Word) (i : ℕ) (a b : Word) → sets xs i (a ++ b) ≡ sets (sets xs i a) (i + length a) b
-sets-append xs i [] b = ap (λ k. sets xs k b) (sym (add-zero i))
-sets-append xs i (w ∷ a) b =
-    sets-append (set xs i w) (suc i) a b
-    ∙ ap (λ k. sets (sets (set xs i w) (suc i) a) k b) (suc-add i (length a) ∙ sym (add-suc i (length a)))
 
 sets-out : (xs : Word) (i : ℕ) (a : Word) → length xs ≤ i → sets xs i a ≡ xs
 sets-out xs i [] h = refl
@@ -61,10 +55,7 @@ module _ {b : Block} {s : Command} {m : Block} (is : b ≡ then s m) (v : ℕ) (
     let on : Ends o two (length ev) (at + length (one .word)) r₂ c₂ n₂ = rw (← same, ← room, ← done .written) ends in
     rw is (others ∙ rw (same, laid, done .written) (sym (sets-append ev at (one .word) (two .word))), ends-on one two (length ev) at o r₂ c₂ n₂ on)
 
--- A word laid from the first place on.
-pub sets-start : (ev w : Word) → 0 + length w ≤ length ev → sets ev 0 w ≡ w ++ drop (length w) ev
-sets-start ev w h = sets-eq w ev 0 h ∙ ap (λ (n : ℕ). w ++ drop n ev) (omega arith)
-
+-- A word laid from the first place on, where there is not enough room.
 pub sets-short : (ev w : Word) → length ev < 0 + length w → sets ev 0 w ≡ take (length ev) w
 sets-short ev w h =
     let n = length ev in

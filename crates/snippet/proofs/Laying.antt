@@ -2,7 +2,6 @@
 use mathlib.Core.Path.{_≡_, refl, sym, ap, _∙_}
 use mathlib.Core.List.{List, [], _∷_, _++_}
 use Prim.Native.Nat.{ℕ, zero, suc, _+_, _-_, _≤_, _<_}
-use native.Mathlib.Nat.{add-zero, add-suc, suc-add}
 use native.Mathlib.Numerals.{add-one}
 use native.Mathlib.Omega.{arith}
 use mathlib.Core.Logic.{_≢_}
@@ -14,6 +13,7 @@ use Rattle.snippet.specs.Keeps.{Sizes}
 use Rattle.snippet.specs.Parse.{operandAt, innerAt, branchAt, declareAt, parseC}
 use Rattle.snippet.specs.Reads.{ReadC}
 use Rattle.trace.specs.declared.refusal.Refusal.{Refusal}
+use Rattle.trace.proofs.Lists.{sets-append}
 use Rattle.snippet.specs.declared.span.Span.{Span}
 use Rattle.std.specs.declared.result.Result.{Result}
 use Rattle.std.specs.declared.result.Result.the-variants.{Ok}
@@ -52,12 +52,6 @@ mutual
     let r = lengthB e in
     omega arith
   lengthC (declare a x b) = let q = lengthB b in omega arith
-
-pub sets-append : (xs : List Statement) (i : ℕ) (a b : List Statement) → sets xs i (a ++ b) ≡ sets (sets xs i a) (i + length a) b
-sets-append xs i [] b = ap (λ k. sets xs k b) (sym (add-zero i))
-sets-append xs i (w ∷ a) b =
-    sets-append (set xs i w) (suc i) a b
-    ∙ ap (λ k. sets (sets (set xs i w) (suc i) a) k b) (suc-add i (length a) ∙ sym (add-suc i (length a)))
 
 -- A later write below what was laid.
 pub set-sets : (xs : List Statement) (i j : ℕ) (v : Statement) (a : List Statement) → i < j → set (sets xs j a) i v ≡ sets (set xs i v) j a

@@ -7,8 +7,9 @@ use lib.ListN.{length, getD, take, drop}
 use lib.Seq.{sets}
 use Rattle.std.specs.Written.{decimal}
 use Rattle.std.proofs.shelf.Lists.{length-push, length-drop, take-rest}
+use Rattle.trace.proofs.Lists.{sets-append}
 use Rattle.lines.specs.Lines.{written}
-use Rattle.lines.proofs.Bytes.{written-last, written-more, last-long, more-long, sets-append}
+use Rattle.lines.proofs.Bytes.{written-last, written-more, last-long, more-long}
 use Rattle.lines.proofs.write.+put_numbers.Needs as need
 
 pub put-field-requires : need.put-field-requires

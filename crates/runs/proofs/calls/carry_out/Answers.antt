@@ -10,7 +10,8 @@ use Rattle.snippet.specs.Meant.{sizesOf, programOf}
 use Rattle.runs.specs.Runs.{Run, runB, runOf, startOf, choicesOf, nonzero}
 use Rattle.runs.proofs.Bounds.{count-is}
 use Rattle.runs.proofs.Exact.{rest-few}
-use Rattle.runs.proofs.Laid.{sets-start, sets-short}
+use Rattle.trace.proofs.Lists.{sets-start}
+use Rattle.runs.proofs.Laid.{sets-short}
 use Rattle.runs.proofs.calls.carry_out.Needs as need
 
 is-run : (m : Sizes) (b : Block) (k : ℕ) {cs rs : List ℕ} → rs ≡ startOf m k → cs ≡ choicesOf m b k → runB (m .values) b cs rs ≡ runOf m b k
@@ -37,10 +38,10 @@ returns-in-Ok c =
     let e = c .in-Ok .ensures tt in
     let w = ap (λ (o : Run). o .word) is in
     let rest = e .ends .rest ∙ ap (λ (o : Run). o .rest) is in
-    let fits : 0 + length (runOf (sizesOf s) (programOf s) k .word) ≤ length (c .args .events .now) = omega (arith, e .ends .fits, ap length w) in
+    let fits : length (runOf (sizesOf s) (programOf s) k .word) ≤ length (c .args .events .now) = omega (arith, e .ends .fits, ap length w) in
     record {
       number = omega (arith, count-is s);
-      fits = omega arith;
+      fits = fits;
       events = e .events ∙ rw w (sets-start _ _ fits);
       registers = e .ends .registers ∙ ap (λ (o : Run). o .registers) is;
       long = omega (arith, e .ends .written, ap length w);

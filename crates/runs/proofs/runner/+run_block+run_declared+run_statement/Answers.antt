@@ -1,11 +1,23 @@
 use borrow.Author.Needs.{needs}
-use mathlib.Core.Path.{refl}
+use mathlib.Core.Path.{_≡_, refl}
+use mathlib.Core.List.{List}
+use Prim.Native.Nat.{ℕ, _<_}
 use native.Mathlib.Omega.{arith}
+use lib.ListN.{getD}
 use Rattle.std.proofs.shelf.Results.{err-from-errBy}
+use Rattle.snippet.specs.Program.{then}
+use Rattle.snippet.specs.Layout.{after, commandOf, block}
+use Rattle.snippet.specs.declared.statement.Statement.{Statement}
+use Rattle.snippet.specs.declared.statement.Statement.the-variants.{Skip}
+use Rattle.snippet.proofs.Blocks.{block-end, block-then}
 use Rattle.runs.specs.Held.{held}
 use Rattle.runs.proofs.Laid.{stopped, carried}
-use Rattle.runs.proofs.Trees.{block-end, block-at}
 use Rattle.runs.proofs.runner.+run_block+run_declared+run_statement.Needs as need
+
+-- A block's first command and the others, from the place that the code computed.
+block-at : (ns : List Statement) (at to : ℕ) → at < to → (next : ℕ) → next ≡ after (getD ns at Skip) at to
+    → block ns at to ≡ then (commandOf (block ns) (getD ns at Skip) at to) (block ns next to)
+block-at ns at to h next e = rw e (block-then ns at to h)
 
 pub run-block-returns-then-at-to : need.run-block-returns-then-at-to
 run-block-returns-then-at-to t c =
@@ -17,7 +29,7 @@ run-block-returns-in-Break-run-statement t c =
     let ns = c .args .body .now .statements in
     let p = err-from-errBy (c .from-residual .result) (c .from-residual .ensures .1) in
     let e = c .in-Break-run-statement .ensures tt in
-    let both = stopped (block-at ns (c .args .at) (c .args .to) (c .if-at-to .left) _ refl) _ _ _ _ _ _ (e .events) (e .ends) in
+    let both = stopped (block-then ns (c .args .at) (c .args .to) (c .if-at-to .left)) _ _ _ _ _ _ (e .events) (e .ends) in
     record { events = both .0; ends = rw (p .1) (both .1) }
 
 pub run-block-returns : need.run-block-returns
