@@ -6,7 +6,8 @@ ghost use Rattle.pairs.specs.Meant.{meant};
 ghost use Rattle.handins.specs.Meant.{meant as derivation};
 ghost use Rattle.judging.specs.Judged.{causeOf, Settled, Decided, Judged, OneAnswer};
 ghost use Rattle.judging.specs.Valid.{Exactly};
-use crate::perform::perform;
+ghost use Rattle.snippet.specs.Meant.{sizesOf, programOf};
+ghost use Rattle.judging.specs.Performed.{PerformAnswer};
 use crate::performed::Performed;
 use handins::HandIn;
 use handins::read_hand_in;
@@ -15,8 +16,30 @@ use pairs::Pair;
 use rewrite::Denied;
 use rewrite::Step;
 use rewrite::Working;
+use runs::Registers;
+use runs::run;
+use runs::start_registers;
+use snippet::Snippet;
 use trace::Cause;
+use trace::Event;
 use trace::Refusal;
+
+// Carries out a run. A run has at most 32 events, one for each statement, so there is room.
+fn perform(snippet: &Snippet, number: u16) -> Result<Performed, Refusal>
+    ensures { λ r. ⌜ PerformAnswer (sizesOf (now (snippet .entry))) (programOf (now (snippet .entry))) number r ⌝ }
+{
+    let start = start_registers(snippet, number)?;
+    let mut events = [Event::Fence; 48];
+    let mut end = Registers::new();
+    let ran = run(snippet, number, &mut events, &mut end)?;
+    Ok(Performed {
+        events,
+        length: ran.length,
+        start,
+        end,
+        idle: ran.idle,
+    })
+}
 
 fn cause_of(why: Denied) -> Cause
     ensures { λ r. ⌜ r ≡ causeOf why ⌝ }

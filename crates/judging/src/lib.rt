@@ -1,7 +1,6 @@
 //! The judging of one hand-in: whether its steps lead from the original's run to the replacement's.
 
 mod decide;
-mod perform;
 mod performed;
 
 pub use decide::judge;

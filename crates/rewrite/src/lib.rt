@@ -1,9 +1,6 @@
 //! Rewriting steps on a working word, and the judging of a derivation step by step.
 
-mod apply;
 mod look;
-mod replay;
-mod splice;
 mod working;
 
 pub use working::Denied;

@@ -16,8 +16,10 @@ use ordering::Removal;
 use trace::Access;
 use trace::Event;
 
+mod steps;
+
 // The rule that a number stands for.
-pub(crate) fn rule_of(number: u8) -> Option<Rule>
+fn rule_of(number: u8) -> Option<Rule>
     ensures { λ r. ⌜ r ≡ ruleOf number ⌝ }
 {
     match number {
@@ -94,7 +96,7 @@ fn both(a: Option<Access>, b: Option<Access>) -> Option<(Access, Access)>
 }
 
 // What the rule asks of the model for the two events, if they fit.
-pub(crate) fn fits(rule: Rule, e: Event, f: Event) -> Option<Question>
+fn fits(rule: Rule, e: Event, f: Event) -> Option<Question>
     ensures { λ r. ⌜ BySome r ((K z : ℕ) (Y : Word) (q : Asked) → Turns K z rule (e ∷ f ∷ []) Y q → ⊥) (λ q. (K z : ℕ) → Turns K z rule (e ∷ f ∷ []) (left rule e f) q) ⌝ }
 {
     match rule {
@@ -130,7 +132,7 @@ pub(crate) fn fits(rule: Rule, e: Event, f: Event) -> Option<Question>
 }
 
 // The model's answer.
-pub(crate) fn ask<M: Model>(model: &M, question: Question) -> bool
+fn ask<M: Model>(model: &M, question: Question) -> bool
     ensures { λ r. ⌜ r ≡ answer (meaning (now (model .entry))) question ⌝ }
 {
     match question {

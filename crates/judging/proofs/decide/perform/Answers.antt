@@ -8,7 +8,7 @@ use Rattle.trace.specs.Words.{Word}
 use Rattle.snippet.specs.Meant.{sizesOf, programOf}
 use Rattle.runs.specs.Runs.{wordOf}
 use Rattle.runs.proofs.Bounds.{word-few}
-use Rattle.judging.proofs.perform.perform.Needs as need
+use Rattle.judging.proofs.decide.perform.Needs as need
 
 -- there is such a run, and its word has at most 32 events
 pub returns-in-Break-ran : need.returns-in-Break-ran

@@ -1,22 +1,54 @@
 ghost use mathlib.Core.Path.{_≡_};
 ghost use mathlib.Core.List.{_++_};
 ghost use Prim.Native.Nat.{_+_, _≤_};
-ghost use lib.ListN.{take, drop};
+ghost use lib.ListN.{length, take, drop};
+ghost use Rattle.rewrite.specs.Steps.{word, ruleOf, Applied, Replayed, StepsAreSure, ChainsReach};
 ghost use Rattle.std.specs.declared.option.Option.the-variants.{Some};
 ghost use Rattle.ordering.specs.Meaning.{Meaning};
 ghost use Rattle.rewrite.specs.declared.working.Rule.the-variants.{NewLoad};
-ghost use Rattle.rewrite.specs.Steps.{word, ruleOf, Applied};
 ghost use Rattle.rewrite.specs.Views.{left};
-use crate::look::ask;
-use crate::look::fits;
-use crate::look::rule_of;
+ghost use Rattle.std.specs.Orderings.{When};
 use crate::working::Denied;
 use crate::working::Question;
 use crate::working::Rule;
 use crate::working::Step;
+use crate::working::Stopped;
 use crate::working::Working;
 use ordering::Model;
+use super::ask;
+use super::fits;
+use super::rule_of;
 use trace::Event;
+use trace::same_word;
+
+impl Working {
+    /// The word of the given events, of the first 48 if they are more.
+    pub fn of(events: &[Event]) -> Working
+        ensures { λ r. ⌜ word r ≡ take 48 (now (events .entry)) ⌝ }
+    {
+        let mut made = Working { events: [Event::Fence; 48], len: 0 };
+        if events.len() <= 48 {
+            made.splice(0, 0, events);
+        } else {
+            made.splice(0, 0, &events[0..48]);
+        }
+        made
+    }
+
+    // Puts other events in the place of the `gone` events from p on.
+    fn splice(&mut self, p: usize, gone: usize, put: &[Event])
+        requires { ⌜ p + gone ≤ now self .len ⌝ ∗ ⌜ now self .len + length (now put) ≤ 48 + gone ⌝ }
+        ensures { λ _. ⌜ word (now (self .exit)) ≡ take p (word (now (self .entry))) ++ (now (put .entry) ++ drop (p + gone) (word (now (self .entry)))) ⌝ }
+    {
+        let old = self.events;
+        let end = self.len;
+        let q = p + put.len();
+        let n = end - gone + put.len();
+        self.events[p..q].copy_from_slice(put);
+        self.events[q..n].copy_from_slice(&old[p + gone..end]);
+        self.len = n;
+    }
+}
 
 // How many events a working word has at most.
 const MOST: usize = 48;
@@ -76,7 +108,7 @@ impl Working {
     }
 
     // Takes one step, or says why not and leaves the word.
-    pub(crate) fn apply<M: Model>(&mut self, model: &M, step: Step, v: u8, l: u8) -> Result<(), Denied>
+    fn apply<M: Model>(&mut self, model: &M, step: Step, v: u8, l: u8) -> Result<(), Denied>
         ensures { λ r. ⌜ Applied (meaning (now (model .entry))) v l step (word (now (self .entry))) r (word (now (self .exit))) ⌝ }
     {
         match rule_of(step.rule) {
@@ -86,5 +118,30 @@ impl Working {
                 _ => self.pair(model, rule, step, v, l),
             },
         }
+    }
+}
+
+impl Working {
+    /// Takes the steps one after another, up to the first that is denied. Values are below `v`, and
+    /// locations below `l`.
+    pub fn replay<M: Model>(&mut self, model: &M, steps: &[Step], v: u8, l: u8) -> Result<(), Stopped>
+        ensures replayed { λ r. ⌜ Replayed (meaning (now (model .entry))) v l (now (steps .entry)) (word (now (self .entry))) r (word (now (self .exit))) ⌝ }
+        ensures sure { λ _. ⌜ StepsAreSure ⌝ }
+        ensures reach { λ _. ⌜ ChainsReach (meaning (now (model .entry))) ⌝ }
+    {
+        for i in 0..steps.len() {
+            match self.apply(model, steps[i], v, l) {
+                Ok(()) => {}
+                Err(why) => return Err(Stopped { step: i, why }),
+            }
+        }
+        Ok(())
+    }
+
+    /// Whether this is the given word.
+    pub fn is(&self, other: &[Event]) -> bool
+        ensures { λ r. ⌜ When r (word (now (self .entry)) ≡ now (other .entry)) (word (now (self .entry)) ≡ now (other .entry) → ⊥) ⌝ }
+    {
+        same_word(&self.events[0..self.len], other)
     }
 }
