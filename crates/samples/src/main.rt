@@ -3,6 +3,7 @@
 //! A line of the table has a stream's name, a tab, and its bytes in hexadecimal. Where another tab
 //! and a number follow, zeros are added until the stream has so many bytes.
 
+ghost use Prim.Native.Nat.{_<_};
 use std::alloc::AllocError;
 use std::alloc::Global;
 use std::fs;
@@ -11,7 +12,9 @@ use std::io::Write;
 use stream::judge_stream;
 
 // The value of a hexadecimal digit.
-fn digit(byte: u8) -> u8 {
+fn digit(byte: u8) -> u8
+    ensures { λ r. ⌜ r < 16 ⌝ }
+{
     match byte {
         b'0'..=b'9' => byte - b'0',
         b'a'..=b'f' => byte - b'a' + 10,
