@@ -3,12 +3,10 @@
 mod registers;
 mod choices;
 mod full;
-mod guard;
-mod runner;
 mod ran;
-mod calls;
+mod runner;
 
-pub use calls::run;
-pub use calls::start_registers;
 pub use ran::Ran;
 pub use registers::Registers;
+pub use runner::run;
+pub use runner::start_registers;

@@ -7,9 +7,9 @@ mod held;
 /// The values of a run's registers.
 #[derive(Clone, Copy)]
 pub struct Registers {
-    values: [u8; 4],
+    pub(crate) values: [u8; 4],
     // how many registers there are: the values past them mean nothing
-    count: u8,
+    pub(crate) count: u8,
     ghost four: { length values ≡ 4 },
     ghost few: { count ≤ 4 },
 }

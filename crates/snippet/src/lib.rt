@@ -5,7 +5,6 @@ mod statement;
 mod body;
 mod snippet;
 mod span;
-mod leaf;
 mod read;
 mod runs;
 

@@ -1,160 +1,153 @@
 ghost use mathlib.Core.Path.{_≡_};
-ghost use Prim.Native.Nat.{ℕ, suc, _+_, _-_, _*_, _<_, _≤_};
+ghost use Prim.Native.Nat.{_+_, _<_, _≤_};
 ghost use lib.ListN.{length};
 ghost use Rattle.snippet.specs.Keeps.{sizes};
-ghost use Rattle.snippet.specs.Meant.{blockOf};
-ghost use Rattle.snippet.specs.Parse.{spanAt, innerAt, leafAt, branchAt, declareAt, parseC, parseB, bodyAt};
-ghost use Rattle.snippet.specs.Reads.{Gives, Ahead, Inside, Few, Within, ReadB, ReadC, placed, Under, After, Bounded};
+ghost use Rattle.snippet.specs.Program.{load, store, constant, copy, sum, equal, compareAndSwap, get, print};
+ghost use Rattle.snippet.specs.Parse.{operandAt, one, two, three, four, leafAt};
+ghost use Rattle.snippet.specs.Reads.{Gives, Before, leafy, Plain};
 use trace::Cause;
 use trace::Refusal;
-use crate::body::Body;
-use crate::leaf::operand;
-use crate::leaf::read_leaf;
 use crate::limits::Limits;
-use crate::span::Span;
 use crate::statement::Statement;
 
-/// Where the block whose length stands at a place begins and ends.
-fn block_span(bytes: &[u8], at: usize, end: usize) -> Result<Span, Refusal>
+// The reader of blocks stands below, so that what it uses here stays private.
+mod blocks;
+
+pub use blocks::read_body;
+
+/// The operand at a place, which is below its limit.
+fn operand(bytes: &[u8], at: usize, end: usize, limit: u8) -> Result<u8, Refusal>
     requires { ⌜ end ≤ length (now bytes) ⌝ }
-    ensures value { λ r. ⌜ r ≡ spanAt (now (bytes .entry)) at end ⌝ }
-    ensures bound { λ r. ⌜ Ahead r at end ⌝ }
+    ensures value { λ r. ⌜ r ≡ operandAt (now (bytes .entry)) at end limit ⌝ }
+    ensures bound { λ r. ⌜ Before r at end ⌝ }
 {
-    if end.saturating_sub(at) < 2 {
+    if at >= end {
         return Err(Refusal { cause: Cause::Missing, place: at });
     }
-    let from = at + 2;
-    let size = bytes[at] as usize * 256 + bytes[at + 1] as usize;
-    if end - from < size {
-        return Err(Refusal { cause: Cause::Missing, place: at });
-    }
-    Ok(Span { from, to: from + size })
+    let value = bytes[at];
+    if value < limit { Ok(value) } else { Err(Refusal { cause: Cause::Unknown, place: at }) }
 }
 
-/// The same of a block inside one of the given depth.
-fn inner_span(bytes: &[u8], depth: usize, at: usize, end: usize) -> Result<Span, Refusal>
-    requires { ⌜ end ≤ length (now bytes) ⌝ }
-    ensures value { λ r. ⌜ r ≡ innerAt (now (bytes .entry)) depth at end ⌝ }
-    ensures bound { λ r. ⌜ Inside r depth at end ⌝ }
-{
-    let span = block_span(bytes, at, end)?;
-    if depth >= 8 {
-        return Err(Refusal { cause: Cause::TooMuch, place: at });
-    }
-    Ok(span)
-}
-
-/// Reads the block up to `end` behind the `seen` statements before it, and answers how many there are then.
-fn read_block(bytes: &[u8], limits: Limits, out: &mut [Statement], depth: usize, seen: usize, at: usize, end: usize) -> Result<usize, Refusal>
-    requires place { ⌜ at ≤ end ⌝ }
-    requires within { ⌜ end ≤ length (now bytes) ⌝ }
-    requires room { ⌜ length (now out) ≡ 32 ⌝ }
-    requires seen { ⌜ seen ≤ 32 ⌝ }
-    requires depth { ⌜ depth ≤ 8 ⌝ }
-    ensures reads { λ r. ⌜ ((f : ℕ) → end - at < f → ReadB r (parseB (sizes limits) f (now (bytes .entry)) depth seen at end) (now (out .entry)) (now (out .exit)) seen) ⌝ }
-    ensures few { λ r. ⌜ Few r seen ⌝ }
-{
-    if at == end {
-        return Ok(seen);
-    }
-    let (next, before) = read_statement(bytes, limits, out, depth, seen, at, end)?;
-    let all = read_block(bytes, limits, out, depth, before, next, end)?;
-    Ok(all)
-}
-
-/// Reads one statement with its blocks, and answers the place after it and how many statements there are then.
-fn read_statement(bytes: &[u8], limits: Limits, out: &mut [Statement], depth: usize, seen: usize, at: usize, end: usize) -> Result<(usize, usize), Refusal>
+/// The statement without blocks at a place, and the place after it.
+fn read_leaf(bytes: &[u8], limits: Limits, at: usize, end: usize) -> Result<(Statement, usize), Refusal>
     requires place { ⌜ at < end ⌝ }
     requires within { ⌜ end ≤ length (now bytes) ⌝ }
-    requires room { ⌜ length (now out) ≡ 32 ⌝ }
-    requires seen { ⌜ seen ≤ 32 ⌝ }
-    requires depth { ⌜ depth ≤ 8 ⌝ }
-    ensures reads { λ r. ⌜ ((f : ℕ) → end - at ≤ f → ReadC r (parseC (sizes limits) (parseB (sizes limits) f (now (bytes .entry)) (depth + 1)) (now (bytes .entry)) depth seen at end) (now (out .entry)) (now (out .exit)) seen) ⌝ }
-    ensures within { λ r. ⌜ Within r seen at end ⌝ }
+    ensures gives { λ r. ⌜ Gives r (leafAt (sizes limits) (now (bytes .entry)) at end) leafy ⌝ }
+    ensures plain { λ r. ⌜ Plain r at end ⌝ }
 {
-    if seen >= 32 {
-        return Err(Refusal { cause: Cause::TooMuch, place: at });
-    }
     match bytes[at] {
-        11 => read_branch(bytes, limits, out, depth, seen, at, end),
-        12 => read_declare(bytes, limits, out, depth, seen, at, end),
-        _ => read_plain(bytes, limits, out, seen, at, end),
+        0 => Ok((Statement::Skip, at + 1)),
+        1 => read_load(bytes, limits, at, end),
+        2 => read_store(bytes, limits, at, end),
+        3 => read_constant(bytes, limits, at, end),
+        4 => read_copy(bytes, limits, at, end),
+        5 => read_sum(bytes, limits, at, end),
+        6 => read_equal(bytes, limits, at, end),
+        7 => read_compare_and_swap(bytes, limits, at, end),
+        8 => Ok((Statement::Fence, at + 1)),
+        9 => read_get(bytes, limits, at, end),
+        10 => read_print(bytes, limits, at, end),
+        _ => Err(Refusal { cause: Cause::Unknown, place: at }),
     }
 }
 
-/// A statement without blocks.
-fn read_plain(bytes: &[u8], limits: Limits, out: &mut [Statement], seen: usize, at: usize, end: usize) -> Result<(usize, usize), Refusal>
+fn read_load(bytes: &[u8], limits: Limits, at: usize, end: usize) -> Result<(Statement, usize), Refusal>
     requires place { ⌜ at < end ⌝ }
     requires within { ⌜ end ≤ length (now bytes) ⌝ }
-    requires room { ⌜ length (now out) ≡ 32 ⌝ }
-    requires seen { ⌜ seen < 32 ⌝ }
-    ensures reads { λ r. ⌜ ReadC r (leafAt (sizes limits) (now (bytes .entry)) at end) (now (out .entry)) (now (out .exit)) seen ⌝ }
-    ensures within { λ r. ⌜ Within r seen at end ⌝ }
-{
-    let (statement, next) = read_leaf(bytes, limits, at, end)?;
-    out[seen] = statement;
-    Ok((next, seen + 1))
-}
-
-/// An if, which is written once the statements of its blocks are counted.
-fn read_branch(bytes: &[u8], limits: Limits, out: &mut [Statement], depth: usize, seen: usize, at: usize, end: usize) -> Result<(usize, usize), Refusal>
-    requires place { ⌜ at < end ⌝ }
-    requires within { ⌜ end ≤ length (now bytes) ⌝ }
-    requires room { ⌜ length (now out) ≡ 32 ⌝ }
-    requires seen { ⌜ seen < 32 ⌝ }
-    requires depth { ⌜ depth ≤ 8 ⌝ }
-    ensures reads { λ r. ⌜ ((f : ℕ) → end - at ≤ f → ReadC r (branchAt (sizes limits) (parseB (sizes limits) f (now (bytes .entry)) (depth + 1)) (now (bytes .entry)) depth seen at end) (now (out .entry)) (now (out .exit)) seen) ⌝ }
-    ensures within { λ r. ⌜ Within r seen at end ⌝ }
+    ensures gives { λ r. ⌜ Gives r (two (now (bytes .entry)) (limits .registers) (limits .locations) load at end) leafy ⌝ }
+    ensures plain { λ r. ⌜ Plain r at end ⌝ }
 {
     let register = operand(bytes, at + 1, end, limits.registers)?;
-    let first = inner_span(bytes, depth, at + 2, end)?;
-    let middle = read_block(bytes, limits, out, depth + 1, seen + 1, first.from, first.to)?;
-    let second = inner_span(bytes, depth, first.to, end)?;
-    let all = read_block(bytes, limits, out, depth + 1, middle, second.from, second.to)?;
-    let nonzero = (middle - seen - 1) as u8;
-    let zero = (all - middle) as u8;
-    out[seen] = Statement::If { register, nonzero, zero };
-    Ok((second.to, all))
+    let location = operand(bytes, at + 2, end, limits.locations)?;
+    Ok((Statement::Load { register, location }, at + 3))
 }
 
-/// A declared register, written once the statements of its block are counted.
-fn read_declare(bytes: &[u8], limits: Limits, out: &mut [Statement], depth: usize, seen: usize, at: usize, end: usize) -> Result<(usize, usize), Refusal>
+fn read_store(bytes: &[u8], limits: Limits, at: usize, end: usize) -> Result<(Statement, usize), Refusal>
     requires place { ⌜ at < end ⌝ }
     requires within { ⌜ end ≤ length (now bytes) ⌝ }
-    requires room { ⌜ length (now out) ≡ 32 ⌝ }
-    requires seen { ⌜ seen < 32 ⌝ }
-    requires depth { ⌜ depth ≤ 8 ⌝ }
-    ensures reads { λ r. ⌜ ((f : ℕ) → end - at ≤ f → ReadC r (declareAt (sizes limits) (parseB (sizes limits) f (now (bytes .entry)) (depth + 1)) (now (bytes .entry)) depth seen at end) (now (out .entry)) (now (out .exit)) seen) ⌝ }
-    ensures within { λ r. ⌜ Within r seen at end ⌝ }
+    ensures gives { λ r. ⌜ Gives r (two (now (bytes .entry)) (limits .locations) (limits .registers) store at end) leafy ⌝ }
+    ensures plain { λ r. ⌜ Plain r at end ⌝ }
+{
+    let location = operand(bytes, at + 1, end, limits.locations)?;
+    let register = operand(bytes, at + 2, end, limits.registers)?;
+    Ok((Statement::Store { location, register }, at + 3))
+}
+
+fn read_constant(bytes: &[u8], limits: Limits, at: usize, end: usize) -> Result<(Statement, usize), Refusal>
+    requires place { ⌜ at < end ⌝ }
+    requires within { ⌜ end ≤ length (now bytes) ⌝ }
+    ensures gives { λ r. ⌜ Gives r (two (now (bytes .entry)) (limits .registers) (limits .values) constant at end) leafy ⌝ }
+    ensures plain { λ r. ⌜ Plain r at end ⌝ }
 {
     let register = operand(bytes, at + 1, end, limits.registers)?;
     let value = operand(bytes, at + 2, end, limits.values)?;
-    let span = inner_span(bytes, depth, at + 3, end)?;
-    let all = read_block(bytes, limits, out, depth + 1, seen + 1, span.from, span.to)?;
-    let inner = (all - seen - 1) as u8;
-    out[seen] = Statement::Declare { register, value, inner };
-    Ok((span.to, all))
+    Ok((Statement::Constant { register, value }, at + 3))
 }
 
-/// The body that the bytes of a span are.
-fn read_span(bytes: &[u8], limits: Limits, span: Span) -> Result<Body, Refusal>
-    requires place { ⌜ span .from ≤ span .to ⌝ }
-    requires within { ⌜ span .to ≤ length (now bytes) ⌝ }
-    ensures gives { λ r. ⌜ Gives r (parseB (sizes limits) (suc (span .to - span .from)) (now (bytes .entry)) 0 0 (span .from) (span .to)) blockOf ⌝ }
-    ensures limits { λ r. ⌜ Bounded r limits ⌝ }
+fn read_copy(bytes: &[u8], limits: Limits, at: usize, end: usize) -> Result<(Statement, usize), Refusal>
+    requires place { ⌜ at < end ⌝ }
+    requires within { ⌜ end ≤ length (now bytes) ⌝ }
+    ensures gives { λ r. ⌜ Gives r (two (now (bytes .entry)) (limits .registers) (limits .registers) copy at end) leafy ⌝ }
+    ensures plain { λ r. ⌜ Plain r at end ⌝ }
 {
-    let mut statements = [Statement::Skip; 32];
-    let len = read_block(bytes, limits, &mut statements, 0, 0, span.from, span.to)?;
-    Ok(Body { limits, statements, len })
+    let register = operand(bytes, at + 1, end, limits.registers)?;
+    let from = operand(bytes, at + 2, end, limits.registers)?;
+    Ok((Statement::Copy { register, from }, at + 3))
 }
 
-/// The body whose length stands at `at`, and the place after it. The places of refusals count from the first byte.
-pub fn read_body(bytes: &[u8], limits: Limits, at: usize) -> Result<(Body, usize), Refusal>
-    ensures gives { λ r. ⌜ Gives r (bodyAt (sizes limits) (now (bytes .entry)) at) placed ⌝ }
-    ensures limits { λ r. ⌜ Under r limits ⌝ }
-    ensures after { λ r. ⌜ After r (length (now (bytes .entry))) ⌝ }
+fn read_sum(bytes: &[u8], limits: Limits, at: usize, end: usize) -> Result<(Statement, usize), Refusal>
+    requires place { ⌜ at < end ⌝ }
+    requires within { ⌜ end ≤ length (now bytes) ⌝ }
+    ensures gives { λ r. ⌜ Gives r (three (now (bytes .entry)) (limits .registers) (limits .registers) (limits .registers) sum at end) leafy ⌝ }
+    ensures plain { λ r. ⌜ Plain r at end ⌝ }
 {
-    let span = block_span(bytes, at, bytes.len())?;
-    let body = read_span(bytes, limits, span)?;
-    Ok((body, span.to))
+    let register = operand(bytes, at + 1, end, limits.registers)?;
+    let left = operand(bytes, at + 2, end, limits.registers)?;
+    let right = operand(bytes, at + 3, end, limits.registers)?;
+    Ok((Statement::Sum { register, left, right }, at + 4))
+}
+
+fn read_equal(bytes: &[u8], limits: Limits, at: usize, end: usize) -> Result<(Statement, usize), Refusal>
+    requires place { ⌜ at < end ⌝ }
+    requires within { ⌜ end ≤ length (now bytes) ⌝ }
+    ensures gives { λ r. ⌜ Gives r (three (now (bytes .entry)) (limits .registers) (limits .registers) (limits .registers) equal at end) leafy ⌝ }
+    ensures plain { λ r. ⌜ Plain r at end ⌝ }
+{
+    let register = operand(bytes, at + 1, end, limits.registers)?;
+    let left = operand(bytes, at + 2, end, limits.registers)?;
+    let right = operand(bytes, at + 3, end, limits.registers)?;
+    Ok((Statement::Equal { register, left, right }, at + 4))
+}
+
+fn read_compare_and_swap(bytes: &[u8], limits: Limits, at: usize, end: usize) -> Result<(Statement, usize), Refusal>
+    requires place { ⌜ at < end ⌝ }
+    requires within { ⌜ end ≤ length (now bytes) ⌝ }
+    ensures gives { λ r. ⌜ Gives r (four (now (bytes .entry)) (limits .registers) (limits .locations) (limits .registers) (limits .registers) compareAndSwap at end) leafy ⌝ }
+    ensures plain { λ r. ⌜ Plain r at end ⌝ }
+{
+    let register = operand(bytes, at + 1, end, limits.registers)?;
+    let location = operand(bytes, at + 2, end, limits.locations)?;
+    let compared = operand(bytes, at + 3, end, limits.registers)?;
+    let new = operand(bytes, at + 4, end, limits.registers)?;
+    Ok((Statement::CompareAndSwap { register, location, compared, new }, at + 5))
+}
+
+fn read_get(bytes: &[u8], limits: Limits, at: usize, end: usize) -> Result<(Statement, usize), Refusal>
+    requires place { ⌜ at < end ⌝ }
+    requires within { ⌜ end ≤ length (now bytes) ⌝ }
+    ensures gives { λ r. ⌜ Gives r (one (now (bytes .entry)) (limits .registers) get at end) leafy ⌝ }
+    ensures plain { λ r. ⌜ Plain r at end ⌝ }
+{
+    let register = operand(bytes, at + 1, end, limits.registers)?;
+    Ok((Statement::Get { register }, at + 2))
+}
+
+fn read_print(bytes: &[u8], limits: Limits, at: usize, end: usize) -> Result<(Statement, usize), Refusal>
+    requires place { ⌜ at < end ⌝ }
+    requires within { ⌜ end ≤ length (now bytes) ⌝ }
+    ensures gives { λ r. ⌜ Gives r (one (now (bytes .entry)) (limits .registers) print at end) leafy ⌝ }
+    ensures plain { λ r. ⌜ Plain r at end ⌝ }
+{
+    let register = operand(bytes, at + 1, end, limits.registers)?;
+    Ok((Statement::Print { register }, at + 2))
 }

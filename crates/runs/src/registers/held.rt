@@ -1,7 +1,6 @@
 ghost use mathlib.Core.Path.{_≡_};
-ghost use mathlib.Core.List.{[], _∷_, _++_};
-ghost use Prim.Native.Nat.{_<_};
-ghost use lib.ListN.{length, getD, set};
+ghost use mathlib.Core.List.{[]};
+ghost use lib.ListN.{getD, set};
 ghost use Rattle.std.specs.Orderings.{When};
 ghost use Rattle.runs.specs.Held.{held};
 use crate::registers::Registers;
@@ -28,15 +27,6 @@ impl Registers {
         if register < self.count {
             self.values[register as usize] = value;
         }
-    }
-
-    // One more register.
-    pub(crate) fn push(&mut self, value: u8)
-        requires { ⌜ length (held (now self)) < 4 ⌝ }
-        ensures { λ _. ⌜ held (now (self .exit)) ≡ held (now (self .entry)) ++ (value ∷ []) ⌝ }
-    {
-        self.values[self.count as usize] = value;
-        self.count += 1;
     }
 
     /// Whether there are as many registers in both, with the same values.

@@ -8,7 +8,7 @@ use Rattle.snippet.specs.Program.{end, then, branch, declare}
 use Rattle.snippet.specs.Keeps.{sizes}
 use Rattle.snippet.specs.Parse.{one, two, parseB}
 use Rattle.std.proofs.shelf.Results.{err-from-errBy}
-use Rattle.snippet.proofs.read.+read_block+read_branch+read_declare+read_statement.Needs as need
+use Rattle.snippet.proofs.read.blocks.+read_block+read_branch+read_declare+read_statement.Needs as need
 
 pub read-block-returns-then-at-end : need.read-block-returns-then-at-end
 read-block-returns-then-at-end t c =

@@ -1,5 +1,5 @@
 use Prim.Native.Nat.{_+_, _-_, _*_}
-use Rattle.snippet.proofs.read.+read_block+read_branch+read_declare+read_statement.Given as given
+use Rattle.snippet.proofs.read.blocks.+read_block+read_branch+read_declare+read_statement.Given as given
 
 abbrev pub μ-read-block : given.MeasureT-read-block
 μ-read-block l = 3 * (l .end - l .at) + 2

@@ -6,7 +6,7 @@ use lib.ListN.{length, take, drop}
 use Rattle.snippet.specs.declared.snippet.Snippet.{Snippet}
 use Rattle.runs.specs.Runs.{digits, startOf, choicesOf}
 use Rattle.runs.proofs.Digits.{few-digits, digits-length, lower-digits, upper-digits}
-use Rattle.runs.proofs.calls.opened.Needs as need
+use Rattle.runs.proofs.runner.calls.opened.Needs as need
 
 few : (s : Snippet) → s .body .limits .registers + s .choices ≤ 12
 few s = few-digits (s .body .limits .values) (s .body .limits .registers + s .choices) (s .body .limits .«few_values») (omega (arith, s .powered, s .bounded))

@@ -12,7 +12,7 @@ use Rattle.runs.proofs.Bounds.{count-is}
 use Rattle.runs.proofs.Exact.{rest-few}
 use Rattle.trace.proofs.Lists.{sets-start}
 use Rattle.runs.proofs.Laid.{sets-short}
-use Rattle.runs.proofs.calls.carry_out.Needs as need
+use Rattle.runs.proofs.runner.calls.carry_out.Needs as need
 
 is-run : (m : Sizes) (b : Block) (k : ℕ) {cs rs : List ℕ} → rs ≡ startOf m k → cs ≡ choicesOf m b k → runB (m .values) b cs rs ≡ runOf m b k
 unfolding runOf

@@ -1,7 +1,7 @@
 use mathlib.Core.Path.{_≡_}
 use lib.ListN.{take, drop}
 use Rattle.runs.specs.Held.{held, remaining}
-use Rattle.runs.proofs.calls.first_registers.Given as given
+use Rattle.runs.proofs.runner.calls.first_registers.Given as given
 
 abbrev pub Inv-loop-register : given.InvT-loop-register
 Inv-loop-register l =

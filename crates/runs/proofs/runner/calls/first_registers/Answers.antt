@@ -6,7 +6,7 @@ use lib.ListN.{length, take, drop, getD}
 use Rattle.std.proofs.shelf.Lists.{take-more, drop-more, length-take-le}
 use Rattle.runs.specs.Held.{remaining}
 use Rattle.runs.specs.Runs.{first, others}
-use Rattle.runs.proofs.calls.first_registers.Needs as need
+use Rattle.runs.proofs.runner.calls.first_registers.Needs as need
 
 pub push-requires : need.push-requires
 push-requires c κs =

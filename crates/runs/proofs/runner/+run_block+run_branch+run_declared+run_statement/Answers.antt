@@ -12,7 +12,7 @@ use Rattle.snippet.specs.declared.statement.Statement.the-variants.{Skip}
 use Rattle.snippet.proofs.Blocks.{block-end, block-then}
 use Rattle.runs.specs.Held.{held}
 use Rattle.runs.proofs.Laid.{stopped, carried}
-use Rattle.runs.proofs.runner.+run_block+run_declared+run_statement.Needs as need
+use Rattle.runs.proofs.runner.+run_block+run_branch+run_declared+run_statement.Needs as need
 
 -- A block's first command and the others, from the place that the code computed.
 block-at : (ns : List Statement) (at to : ℕ) → at < to → (next : ℕ) → next ≡ after (getD ns at Skip) at to

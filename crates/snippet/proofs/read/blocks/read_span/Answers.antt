@@ -7,7 +7,7 @@ use Rattle.snippet.proofs.Flat.{block-laid, front-laid, read-laid}
 use Rattle.snippet.proofs.Sound.{soundB}
 use Rattle.snippet.specs.Program.{Block}
 use Rattle.snippet.specs.Keeps.{sizes, keepsB}
-use Rattle.snippet.proofs.read.read_span.Needs as need
+use Rattle.snippet.proofs.read.blocks.read_span.Needs as need
 
 pub returns-in-Break-len : need.returns-in-Break-len
 returns-in-Break-len c =

@@ -1,8 +1,9 @@
 ghost use mathlib.Core.Path.{_≡_};
-ghost use Prim.Native.Nat.{_≤_, _<_};
+ghost use mathlib.Core.List.{[], _∷_, _++_};
+ghost use Prim.Native.Nat.{_≤_, _<_, _^_};
 ghost use lib.ListN.{length, take, drop};
 ghost use Rattle.snippet.specs.Meant.{sizesOf, programOf};
-ghost use Rattle.runs.specs.Runs.{startOf, choicesOf};
+ghost use Rattle.runs.specs.Runs.{digits, nonzero, startOf, choicesOf};
 ghost use Rattle.runs.specs.Exact.{BehavioursAreRuns};
 ghost use Rattle.runs.specs.Held.{held, remaining};
 ghost use Rattle.runs.specs.Answers.{StartAnswer, RunAnswer};
@@ -10,11 +11,45 @@ use crate::choices::Choices;
 use crate::full::Full;
 use crate::ran::Ran;
 use crate::registers::Registers;
-use crate::runner::run_block;
 use snippet::Snippet;
 use trace::Cause;
 use trace::Event;
 use trace::Refusal;
+use super::run_block;
+
+impl Choices {
+    fn new(base: u8, count: u8, number: u16) -> Choices
+        requires { ⌜ 2 ≤ base ⌝ ∗ ⌜ number < base ^ count ⌝ }
+        ensures { λ r. ⌜ remaining r ≡ digits base count number ⌝ }
+    {
+        Choices { base, left: count, rest: number }
+    }
+
+    // How many choices are left.
+    fn left(&self) -> u8
+        ensures { λ r. ⌜ r ≡ length (remaining (now (self .entry))) ⌝ }
+    {
+        self.left
+    }
+
+    // Whether a choice that is left is not 0.
+    fn idle(&self) -> bool
+        ensures { λ r. ⌜ r ≡ nonzero (remaining (now (self .entry))) ⌝ }
+    {
+        self.rest != 0
+    }
+}
+
+impl Registers {
+    // One more register.
+    fn push(&mut self, value: u8)
+        requires { ⌜ length (held (now self)) < 4 ⌝ }
+        ensures { λ _. ⌜ held (now (self .exit)) ≡ held (now (self .entry)) ++ (value ∷ []) ⌝ }
+    {
+        self.values[self.count as usize] = value;
+        self.count += 1;
+    }
+}
 
 // So many digits into as many registers.
 fn first_registers(choices: &mut Choices, count: u8) -> Registers

@@ -1,6 +1,6 @@
 use Rattle.snippet.specs.Meant.{sizesOf, programOf}
 use Rattle.runs.proofs.Exact.{behaviours-are-runs}
-use Rattle.runs.proofs.calls.run.Needs as need
+use Rattle.runs.proofs.runner.calls.run.Needs as need
 
 pub returns : need.returns
 returns c =
