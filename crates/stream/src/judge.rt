@@ -7,7 +7,7 @@ ghost use Rattle.parts.specs.Law.{bytesOf, HandIns};
 ghost use Rattle.parts.specs.Left.{left};
 ghost use Rattle.lines.specs.Lines.{written};
 ghost use Rattle.cases.specs.Standing.{Follows, Stands};
-ghost use Rattle.stream.specs.Models.{numberOf, meaningOf};
+ghost use Rattle.stream.specs.Models.{numberOf, meaningOf, NamedBy};
 ghost use Rattle.stream.specs.Printed.{causeLine, Lines, FilesPrinted, Printed, PrintedOnce};
 ghost use Rattle.stream.specs.Handed.{lineOf, Handed};
 use cases::Case;
@@ -31,12 +31,25 @@ use std::alloc::AllocError;
 use std::alloc::Global;
 use trace::Cause;
 use trace::Refusal;
-use crate::name::model_named;
 use crate::named::Named;
 use crate::print::print;
 
 /// The most bytes that a stream can have.
 const LONGEST: usize = 32768;
+
+// The model that a byte names, if it names one.
+fn model_named(byte: u8) -> Option<Named>
+    ensures { λ r. ⌜ NamedBy byte r ⌝ }
+{
+    match byte {
+        1 => Some(Named::Sc),
+        2 => Some(Named::Ibm390),
+        3 => Some(Named::Tso),
+        4 => Some(Named::Pso),
+        5 => Some(Named::Clr),
+        _ => None,
+    }
+}
 
 // The one line that is printed where nothing is judged.
 fn decline(heap: Global, refusal: Refusal) -> Result<Vec<u8>, AllocError>

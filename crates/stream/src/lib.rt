@@ -2,7 +2,6 @@
 //! printed for them.
 
 mod judge;
-mod name;
 mod named;
 mod print;
 

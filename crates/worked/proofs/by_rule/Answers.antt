@@ -1,7 +1,7 @@
 use mathlib.Core.Path.{_≡_}
 use Prim.Native.Nat.{ℕ, _/_, _%_}
 use native.Mathlib.Omega.{arith}
-use Rattle.worked.proofs.files.by_rule.Needs as need
+use Rattle.worked.proofs.by_rule.Needs as need
 
 pub returns : need.returns
 returns c =
