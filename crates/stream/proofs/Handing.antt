@@ -11,6 +11,7 @@ use Rattle.pairs.specs.Meant.{meant}
 use Rattle.pairs.specs.declared.pair.Pair.{Pair}
 use Rattle.judging.specs.Judged.{Judged}
 use Rattle.lines.specs.Lines.{numbersOf, written}
+use Rattle.lines.specs.declared.line.Line.{Line}
 use Rattle.cases.specs.History.{Call, handIn}
 use Rattle.cases.specs.Promise.{HandInAnswer}
 use Rattle.cases.specs.Standing.{Follows, Stands}
@@ -63,16 +64,16 @@ module _ {M : Type 0} (meaning : M → Meaning) where
       }
 
   -- the same by the parts that were taken, and those that are left
-  pub part-more : (before mid after : Case M) (all taken rest rest′ : List Piece) (p : Piece) (out new bs : List ℕ) (r : Result (Unit {0}) Refusal)
+  pub part-more : (before mid after : Case M) (all taken rest rest′ : List Piece) (p : Piece) (out new bs : List ℕ) (r : Result (Unit {0}) Refusal) (line : Line)
       → all ≡ taken ++ rest → HandIns rest → Handed meaning before mid (map bytesOf taken) out → rest ≡ p ∷ rest′ → bytesOf p ≡ bs
       → after .pair ≡ mid .pair → after .model ≡ mid .model → HandInAnswer (meaning (mid .model)) (meant (mid .pair)) bs r
       → ((h : List Call) → Follows meaning mid h → Follows meaning after (h ++ handIn bs ∷ []))
       → ((h : List Call) → Follows meaning mid h → Stands meaning after (h ++ handIn bs ∷ []))
-      → new ≡ out ++ written (numbersOf (lineOf r))
+      → line ≡ lineOf r → new ≡ out ++ written (numbersOf line)
       → (t : List Piece) × (all ≡ t ++ rest′) × HandIns rest′ × Handed meaning before after (map bytesOf t) new
-  part-more before mid after all taken rest rest′ p out new bs r whole hs h e is same-pair same-model a f s line =
+  part-more before mid after all taken rest rest′ p out new bs r line whole hs h e is same-pair same-model a f s l w =
       (taken ++ p ∷ [],
         whole ∙ ap (λ xs. taken ++ xs) e ∙ sym (append-assoc taken (p ∷ []) rest′),
         hand-ins-rest p rest′ (subst HandIns e hs),
         subst (λ (xs : List (List ℕ)). Handed meaning before after xs new) (ap (λ (x : List ℕ). map bytesOf taken ++ x ∷ []) (sym is) ∙ sym (map-more bytesOf taken p))
-          (handed-more before mid after (map bytesOf taken) out new bs r h same-pair same-model a (f _ (h .follows)) (s _ (h .follows)) line))
+          (handed-more before mid after (map bytesOf taken) out new bs r h same-pair same-model a (f _ (h .follows)) (s _ (h .follows)) (w ∙ ap (λ x. out ++ written (numbersOf x)) l)))

@@ -16,7 +16,7 @@ use Rattle.parts.specs.declared.cutter.Parts.{Parts}
 use Rattle.parts.specs.declared.part.Part.{Part}
 use Rattle.parts.specs.declared.part.Part.the-variants as parts
 use Rattle.stream.specs.Models.{modelOf}
-use Rattle.stream.specs.Printed.{longest, Unfit, empty, unknown, Fit}
+use Rattle.stream.specs.Printed.{mostBytes, Unfit, empty, unknown, Fit}
 
 nil-cons : {A : Type 0} (x : A) (xs : List A) → _≡_ {A = List A} (x ∷ xs) [] → ⊥
 nil-cons x xs e = let z : _≡_ {A = ℕ} 0 1 = cc in omega arith
@@ -75,7 +75,7 @@ module _ (stream : List ℕ) (r : Rejoins stream) (p : Piece) (rest : List Piece
   pub no-model : modelOf byte ≡ None → Unfit stream
   no-model n = unknown first n
 
-  pub fit-made : length stream ≤ longest → (b : ℕ) (m : Meaning) → (byte ≡ b) × (modelOf byte ≡ Some m) → (q : Piece) (rest′ : List Piece) → rest ≡ q ∷ rest′ → (file : List ℕ) → bytesOf q ≡ file → Fit stream b m file rest′
+  pub fit-made : length stream ≤ mostBytes → (b : ℕ) (m : Meaning) → (byte ≡ b) × (modelOf byte ≡ Some m) → (q : Piece) (rest′ : List Piece) → rest ≡ q ∷ rest′ → (file : List ℕ) → bytesOf q ≡ file → Fit stream b m file rest′
   fit-made few b m known q rest′ more file same =
       let s = starts stream r p rest e in
       let h = same-head q (pair (s .file) 1) rest′ (s .handed) (sym more ∙ s .then) in

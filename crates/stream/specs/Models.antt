@@ -19,13 +19,13 @@ modelOf b =
           (cond (eqb b 4) (Some pso)
             (cond (eqb b 5) (Some clr) None))))
 
--- The number and the meaning of each model that can be named.
-abbrev pub numberOf : Named → ℕ
-numberOf Sc = 1
-numberOf Ibm390 = 2
-numberOf Tso = 3
-numberOf Pso = 4
-numberOf Clr = 5
+-- The byte and the meaning of each model that can be named.
+abbrev pub byteOf : Named → ℕ
+byteOf Sc = 1
+byteOf Ibm390 = 2
+byteOf Tso = 3
+byteOf Pso = 4
+byteOf Clr = 5
 
 abbrev pub meaningOf : Named → Meaning
 meaningOf Sc = sc
@@ -36,5 +36,5 @@ meaningOf Clr = clr
 
 -- The name is the one that the byte stands for, if there is one.
 abbrev pub NamedBy : ℕ → Option Named → Type 0
-NamedBy b (Some n) = (b ≡ numberOf n) × (modelOf b ≡ Some (meaningOf n))
+NamedBy b (Some n) = (b ≡ byteOf n) × (modelOf b ≡ Some (meaningOf n))
 NamedBy b None = modelOf b ≡ None

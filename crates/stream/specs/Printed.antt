@@ -22,8 +22,8 @@ use Rattle.parts.specs.Law.{bytesOf}
 use Rattle.stream.specs.Models.{modelOf}
 
 -- The most bytes that a stream can have.
-abbrev pub longest : ℕ
-longest = 32768
+abbrev pub mostBytes : ℕ
+mostBytes = 32768
 
 -- The line for a cause: its number and its place.
 abbrev pub causeLine : Refusal → List ℕ
@@ -61,12 +61,12 @@ pub record Lines (b : ℕ) (m : Meaning) (P : Program) (files : List (List ℕ))
 -- 18: the stream is empty, too long, or its first byte names no model.
 pub data Unfit (stream : List ℕ) : Type 0 where
   empty : stream ≡ [] → Unfit stream
-  long : longest < length stream → Unfit stream
+  long : mostBytes < length stream → Unfit stream
   unknown : {b : ℕ} {files : List Piece} → partsOf stream ≡ model b 0 ∷ files → modelOf b ≡ None → Unfit stream
 
 -- A stream that can be judged: the number b of the model m, the bytes of the pair file, and the hand-ins.
 pub record Fit (stream : List ℕ) (b : ℕ) (m : Meaning) (file : List ℕ) (handed : List Piece) : Type 0 where
-  pub few : length stream ≤ longest
+  pub few : length stream ≤ mostBytes
   pub parts : partsOf stream ≡ model b 0 ∷ pair file 1 ∷ handed
   pub model : modelOf b ≡ Some m
 

@@ -7,7 +7,7 @@ ghost use Rattle.parts.specs.Law.{bytesOf, HandIns};
 ghost use Rattle.parts.specs.Left.{left};
 ghost use Rattle.lines.specs.Lines.{written};
 ghost use Rattle.cases.specs.Standing.{Follows, Stands};
-ghost use Rattle.stream.specs.Models.{numberOf, meaningOf, NamedBy};
+ghost use Rattle.stream.specs.Models.{byteOf, meaningOf, NamedBy};
 ghost use Rattle.stream.specs.Printed.{causeLine, Lines, FilesPrinted, Printed, PrintedOnce};
 ghost use Rattle.stream.specs.Handed.{lineOf, Handed};
 use cases::Case;
@@ -104,7 +104,7 @@ fn judge_with<M: Model + Drop>(heap: Global, model: M, pair: Pair, parts: Parts<
 
 fn judge_pair(heap: Global, model: Named, pair: Pair, parts: Parts<'_>) -> Result<Vec<u8>, AllocError>
     requires { ⌜ HandIns (left parts) ⌝ }
-    ensures { λ r. ⌜ made r (λ v. Lines (numberOf model) (meaningOf model) (meant pair) (map bytesOf (left (parts .entry))) (vec-items v)) ⌝ }
+    ensures { λ r. ⌜ made r (λ v. Lines (byteOf model) (meaningOf model) (meant pair) (map bytesOf (left (parts .entry))) (vec-items v)) ⌝ }
 {
     match model {
         Named::Sc => judge_with(heap, Sc, pair, parts),
@@ -118,7 +118,7 @@ fn judge_pair(heap: Global, model: Named, pair: Pair, parts: Parts<'_>) -> Resul
 // Judges what follows the model byte.
 fn judge_files(heap: Global, model: Named, file: &[u8], parts: Parts<'_>) -> Result<Vec<u8>, AllocError>
     requires { ⌜ HandIns (left parts) ⌝ }
-    ensures { λ r. ⌜ made r (λ v. FilesPrinted (numberOf model) (meaningOf model) (now (file .entry)) (map bytesOf (left (parts .entry))) (vec-items v)) ⌝ }
+    ensures { λ r. ⌜ made r (λ v. FilesPrinted (byteOf model) (meaningOf model) (now (file .entry)) (map bytesOf (left (parts .entry))) (vec-items v)) ⌝ }
 {
     match read_pair(file) {
         Ok(pair) => judge_pair(heap, model, pair, parts),

@@ -5,7 +5,7 @@ use native.Mathlib.Omega.{arith}
 use Prim.Native.Nat.{_≤_}
 use lib.ListN.{length}
 use Rattle.std.proofs.shelf.Results.{made-weaker}
-use Rattle.stream.specs.Printed.{longest, Printed, no-stream, fit, long}
+use Rattle.stream.specs.Printed.{mostBytes, Printed, no-stream, fit, long}
 use Rattle.stream.proofs.Opening.{isModel, no-first, no-model, fit-made}
 use Rattle.stream.proofs.Single.{printed-once}
 use Rattle.stream.proofs.judge.judge_stream.Needs as need
@@ -39,7 +39,7 @@ returns-in-rest-model-named c =
 pub returns : need.returns
 returns c =
     let n = c .new-parts .ensures in
-    let few : length (c .args .stream .now) ≤ longest = omega arith in
+    let few : length (c .args .stream .now) ≤ mostBytes = omega arith in
     let f =
       fit-made (c .args .stream .now) (n .rejoins) _ _ (sym (n .parts) ∙ c .in-Some-Model .ensures tt .takes) (c .in-Some-Model .byte) (search needs) few _ _ (c .in-Some .ensures tt) _ _ (c .in-Some-Pair .ensures tt .takes) (c .in-Some-Pair .bytes .now) (search needs) in
     record {
