@@ -1,4 +1,4 @@
-use Rattle.ordering.specs.Meaning.{Lawful}
+use Rattle.ordering.proofs.Laws.{lawful}
 use Rattle.surroundings.proofs.Sound.{sound}
 use Rattle.surroundings.proofs.steps_are_sound.Needs as need
 
@@ -7,5 +7,5 @@ returns g c v o r f =
     let m = c .args .model .now in
     let met = g .M·Model·met in
     let s = g .S·Sets in
-    let law : Lawful (g .M·Model .meaning m) = record { within = met .within m; together = met .together m; five = met .five m; six = met .six m } in
+    let law = lawful (g .M·Model .meaning) (met .within) (met .together) (met .five) (met .six) m in
     sound law v (s .sets) (s .words) (s .sets o) (s .sets r) f

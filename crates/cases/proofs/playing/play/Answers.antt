@@ -4,7 +4,7 @@ use Prim.Native.Nat.{ℕ, _+_, _<_}
 use native.Mathlib.Omega.{arith}
 use lib.ListN.{length, take, getD, set}
 use Rattle.std.proofs.shelf.Lists.{take-all, length-map}
-use Rattle.ordering.specs.Meaning.{Lawful}
+use Rattle.ordering.proofs.Laws.{lawful}
 use Rattle.pairs.specs.Meant.{meant}
 use Rattle.pairs.specs.declared.pair.Pair.{Pair}
 use Rattle.cases.specs.declared.script.Standing.{Standing}
@@ -23,7 +23,7 @@ loop-i-again g c =
     let case = c .loop-i .case in
     let met = g .M·Model·met in
     let x = case .model in
-    let law : Lawful (g .M·Model .meaning x) = record { within = met .within x; together = met .together x; five = met .five x; six = met .six x } in
+    let law = lawful (g .M·Model .meaning) (met .within) (met .together) (met .five) (met .six) x in
     let cs = map callOf (c .args .calls .now) in
     let i = c .loop-i .i in
     let p = c .open-case .result .pair in
@@ -42,7 +42,7 @@ returns g c =
     let case = c .loop-i .case in
     let met = g .M·Model·met in
     let x = case .model in
-    let law : Lawful (g .M·Model .meaning x) = record { within = met .within x; together = met .together x; five = met .five x; six = met .six x } in
+    let law = lawful (g .M·Model .meaning) (met .within) (met .together) (met .five) (met .six) x in
     let calls = c .args .calls .now in
     let cs = map callOf calls in
     let i = c .loop-i .i in

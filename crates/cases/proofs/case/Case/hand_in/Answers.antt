@@ -1,6 +1,6 @@
 use mathlib.Core.Path.{_≡_, refl, sym}
 use mathlib.Core.List.{List}
-use Rattle.ordering.specs.Meaning.{Lawful}
+use Rattle.ordering.proofs.Laws.{lawful}
 use Rattle.cases.specs.History.{Call}
 use Rattle.cases.specs.Standing.{Follows}
 use Rattle.judging.proofs.Settling.{names-one}
@@ -15,7 +15,7 @@ returns-in-Ok g c =
     let s = c .args .self .now in
     let met = g .M·Model·met in
     let m = s .model in
-    let law : Lawful (g .M·Model .meaning m) = record { within = met .within m; together = met .together m; five = met .five m; six = met .six m } in
+    let law = lawful (g .M·Model .meaning) (met .within) (met .together) (met .five) (met .six) m in
     let n = c .in-Ok .ensures tt .exactly in
     let run = c .in-Ok .run′ in
     let step = λ (h : List Call) (f : Follows (g .M·Model .meaning) s h). following (g .M·Model .meaning) _ (marks-accepted (c .args .bytes .now) run (marked (c .add .last .self)) n (λ k q. names-one q n) (c .add .ensures .added (named-few (s .pair) run n)) h (marking (g .M·Model .meaning) s f)) in
@@ -33,7 +33,7 @@ returns-in-Err g c =
     let s = c .args .self .now in
     let met = g .M·Model·met in
     let m = s .model in
-    let law : Lawful (g .M·Model .meaning m) = record { within = met .within m; together = met .together m; five = met .five m; six = met .six m } in
+    let law = lawful (g .M·Model .meaning) (met .within) (met .together) (met .five) (met .six) m in
     let n = c .in-Err .ensures tt .exactly in
     record {
       pair = refl;

@@ -1,6 +1,6 @@
 use mathlib.Core.Path.{_≡_, refl, ap, _∙_}
 use Prim.Native.Nat.{ℕ}
-use Rattle.ordering.specs.Meaning.{Lawful}
+use Rattle.ordering.proofs.Laws.{lawful}
 use Rattle.snippet.specs.Keeps.{Sizes}
 use Rattle.snippet.specs.Meant.{programOf}
 use Rattle.judging.proofs.Pairs.{same-sizes}
@@ -16,6 +16,6 @@ pub returns : need.returns
 returns g c =
     let met = g .M·Model·met in
     let m = c .args .model in
-    let law : Lawful (g .M·Model .meaning m) = record { within = met .within m; together = met .together m; five = met .five m; six = met .six m } in
+    let law = lawful (g .M·Model .meaning) (met .within) (met .together) (met .five) (met .six) m in
     let f = following (g .M·Model .meaning) _ (marks-none (c .none .ensures)) in
     record { pair = refl; model = refl; follows = f; promise = standing (g .M·Model .meaning) _ law f }
