@@ -1,11 +1,9 @@
 -- A case that follows calls keeps the whole promise.
 use mathlib.Core.Path.{_≡_}
-use mathlib.Core.Bool.{Bool, true}
+use mathlib.Core.Bool.{true}
 use mathlib.Core.List.{List}
 use Prim.Native.Nat.{ℕ}
-use Rattle.trace.specs.Words.{Word, Behaviour}
 use Rattle.ordering.specs.Meaning.{Meaning, Lawful}
-use Rattle.ordering.specs.declared.model.Model.{Ghosts}
 use Rattle.marks.specs.Marks.{marked}
 use Rattle.pairs.specs.Meant.{meant}
 use Rattle.cases.specs.declared.case.Case.{Case}

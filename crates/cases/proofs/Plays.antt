@@ -4,13 +4,12 @@ use mathlib.Core.List.{List, [], _∷_, _++_, map}
 use mathlib.Core.Logic.{inl, inr}
 use Prim.Native.Nat.{ℕ, _+_, _<_, _≤_}
 use native.Mathlib.Omega.{arith}
-use lib.ListN.{length, getD, set, take, length-set}
+use lib.ListN.{length, getD, set, take}
 use lib.Seq.{getD-set-same, getD-set-other}
 use Rattle.std.proofs.shelf.Lists.{take-more, getD-map, length-map}
 use Rattle.std.proofs.shelf.Tests.{cases-eq}
 use Rattle.trace.specs.Words.{Word, Behaviours}
 use Rattle.ordering.specs.Meaning.{Meaning, Lawful}
-use Rattle.surroundings.specs.Soundness.{AddsNothing}
 use Rattle.pairs.specs.Program.{Program}
 use Rattle.pairs.specs.Meant.{meant}
 use Rattle.pairs.specs.declared.pair.Pair.{Pair}

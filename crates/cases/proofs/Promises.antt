@@ -2,16 +2,16 @@
 use mathlib.Core.Path.{_≡_, refl, sym, ap, _∙_, subst}
 use mathlib.Core.Bool.{Bool, true, false, _&&_, not, cond}
 use mathlib.Core.List.{List}
-use mathlib.Core.Logic.{_⊎_, inl, inr}
-use Prim.Native.Nat.{ℕ, zero, suc, _+_, _<_, _≤_}
+use mathlib.Core.Logic.{inl, inr}
+use Prim.Native.Nat.{ℕ, zero, suc, _+_, _<_}
 use native.Mathlib.Omega.{arith}
 use native.Mathlib.Numerals.{add-one}
 use native.Mathlib.Nat.{add-zero}
 use lib.Dec.{ltb}
 use Rattle.std.specs.declared.option.Option.{Option}
 use Rattle.std.specs.declared.option.Option.the-variants.{Some, None}
-use Rattle.std.proofs.shelf.Tests.{and-parts, and-from, not-true, not-false, not-from-true, not-from-false, ltb-true, lt-ltb, both-ways, cases-bool}
-use Rattle.trace.specs.Words.{Word, Registers, Behaviour, behaviour, Behaviours}
+use Rattle.std.proofs.shelf.Tests.{and-parts, and-from, not-true, not-from-false, ltb-true, lt-ltb, both-ways, cases-bool}
+use Rattle.trace.specs.Words.{Word, Registers, behaviour, Behaviours}
 use Rattle.ordering.specs.Meaning.{Meaning, Lawful}
 use Rattle.surroundings.specs.Steps.{Reaches}
 use Rattle.surroundings.specs.Soundness.{Reached, AddsNothing}
@@ -28,9 +28,8 @@ use Rattle.runs.specs.Behaviours.{Behaves}
 use Rattle.runs.specs.Exact.{BehavioursAreRuns}
 use Rattle.runs.proofs.Exact.{behaviours-are-runs}
 use Rattle.runs.proofs.Bounds.{count-is}
-use Rattle.judging.specs.Valid.{Valid, Names}
+use Rattle.judging.specs.Valid.{Names}
 use Rattle.judging.proofs.Pairs.{same-sizes}
-use Rattle.handins.specs.Encoded.{Derivation}
 use Rattle.marks.specs.Marks.{Lowest, countBelow}
 use Rattle.cases.specs.Active.{isActive}
 use Rattle.cases.specs.History.{Call, Matched, here, later}

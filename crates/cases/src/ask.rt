@@ -1,4 +1,3 @@
-ghost use mathlib.Core.Path.{_≡_};
 ghost use mathlib.Core.List.{List, [], _∷_, _++_};
 ghost use Rattle.pairs.specs.Meant.{meant};
 ghost use Rattle.cases.specs.History.{Call as Made, verdict as asked, count as counted};

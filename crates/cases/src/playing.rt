@@ -1,7 +1,6 @@
 ghost use mathlib.Core.Path.{_≡_};
 ghost use mathlib.Core.List.{List, [], _∷_, _++_, map};
 ghost use lib.ListN.{set};
-ghost use Rattle.ordering.specs.Meaning.{Meaning};
 ghost use Rattle.pairs.specs.Meant.{meant};
 ghost use Rattle.cases.specs.History.{Call as Made};
 ghost use Rattle.cases.specs.Standing.{Follows, Verdict, Counted};

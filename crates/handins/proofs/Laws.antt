@@ -2,10 +2,10 @@
 use mathlib.Core.Path.{_≡_, refl, sym, ap, _∙_, subst}
 use mathlib.Core.Bool.{true}
 use mathlib.Core.List.{List, [], _∷_, _++_}
-use Prim.Native.Nat.{ℕ, zero, suc, _+_, _-_, _*_, _/_, _%_, _≤_, _<_}
+use Prim.Native.Nat.{ℕ, zero, suc, _+_, _-_, _*_, _/_, _%_}
 use native.Mathlib.Omega.{arith}
 use native.Mathlib.Numerals.{add-one}
-use lib.Dec.{eqb, leb}
+use lib.Dec.{leb}
 use lib.ListN.{length, getD}
 use Rattle.std.specs.declared.result.Result.{Result}
 use Rattle.std.specs.declared.result.Result.the-variants.{Ok, Err}
@@ -13,13 +13,12 @@ use Rattle.std.proofs.shelf.Tests.{and-parts, and-from, leb-true, le-leb, eqb-t
 use Rattle.trace.specs.declared.refusal.Refusal.{Refusal}
 use Rattle.trace.specs.declared.refusal.Cause.the-variants.{HandInLength}
 use Rattle.rewrite.specs.declared.working.Step.{Step}
-use Rattle.snippet.specs.Encode.{Bytes, sized}
-use Rattle.snippet.specs.Parse.{and-then, declined}
+use Rattle.snippet.specs.Encode.{Bytes}
 use Rattle.snippet.specs.Reads.{Gives}
 use Rattle.snippet.proofs.Holds.{Holds, moved, self, whole}
 use Rattle.snippet.proofs.Inverse.{both, keep, ok-inj, no-ok, there, sized-holds}
 use Rattle.pairs.specs.File.{headerAt}
-use Rattle.pairs.proofs.Heads.{Header, header-ok, header-is}
+use Rattle.pairs.proofs.Heads.{header-ok, header-is}
 use Rattle.handins.specs.declared.hand_in.HandIn.{HandIn}
 use Rattle.handins.specs.Encoded.{Derivation, encodeSteps, encodeRest, encodeHandIn, IsHandIn}
 use Rattle.handins.specs.File.{stepAt, stepsFrom, rightLength, derivationAt}

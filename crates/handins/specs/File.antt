@@ -5,7 +5,7 @@ use Prim.Native.Nat.{ℕ, zero, suc, _+_, _-_, _*_, _/_, _%_}
 use lib.Dec.{eqb, leb}
 use lib.ListN.{getD, length}
 use Rattle.std.specs.declared.result.Result.{Result}
-use Rattle.std.specs.declared.result.Result.the-variants.{Ok, Err}
+use Rattle.std.specs.declared.result.Result.the-variants.{Ok}
 use Rattle.trace.specs.declared.refusal.Refusal.{Refusal}
 use Rattle.trace.specs.declared.refusal.Cause.the-variants.{HandInLength}
 use Rattle.snippet.specs.Parse.{and-then, declined}

@@ -1,26 +1,23 @@
 -- The causes against a hand-in that was read, from what the runs showed.
-use mathlib.Core.Path.{_≡_, sym, ap, _∙_, subst}
-use mathlib.Core.Bool.{Bool, true, false}
-use mathlib.Core.List.{List}
+use mathlib.Core.Path.{_≡_, sym, _∙_, subst}
+use mathlib.Core.Bool.{true, false}
 use mathlib.Core.Logic.{_⊎_, inl, inr}
-use Prim.Native.Nat.{ℕ, _-_, _≤_}
+use Prim.Native.Nat.{_-_, _≤_}
 use native.Mathlib.Omega.{arith}
 use lib.ListN.{take}
 use borrow.Rule.Slice.PartMut.{midOf}
 use Rattle.std.specs.declared.result.Result.{Result}
-use Rattle.std.specs.declared.result.Result.the-variants.{Ok, Err}
+use Rattle.std.specs.declared.result.Result.the-variants.{Err}
 use Rattle.std.proofs.shelf.Tests.{both-ways}
 use Rattle.trace.specs.declared.refusal.Refusal.{Refusal}
 use Rattle.trace.specs.declared.refusal.Cause.the-variants.{NoSuchRun, IdleRun, StartRegisters}
-use Rattle.trace.specs.Words.{Word, Registers}
 use Rattle.ordering.specs.Meaning.{Meaning}
-use Rattle.rewrite.specs.declared.working.Step.{Step}
 use Rattle.snippet.specs.Keeps.{Sizes}
 use Rattle.snippet.specs.Meant.{sizesOf, programOf}
 use Rattle.snippet.specs.Parse.{refusal}
 use Rattle.pairs.specs.Meant.{meant}
 use Rattle.pairs.specs.declared.pair.Pair.{Pair}
-use Rattle.runs.specs.Runs.{count, wordOf, endOf}
+use Rattle.runs.specs.Runs.{count}
 use Rattle.runs.specs.Held.{held}
 use Rattle.handins.specs.Meant.{meant as derivation}
 use Rattle.handins.specs.declared.hand_in.HandIn.{HandIn}

@@ -1,9 +1,7 @@
 -- A hand-in that is settled is valid, and the other way round; and there is one answer.
-use mathlib.Core.Path.{_≡_, refl, sym, ap, ap₂, _∙_, subst}
-use mathlib.Core.Bool.{true, false}
+use mathlib.Core.Path.{_≡_, refl, sym, ap, _∙_, subst}
 use mathlib.Core.List.{List}
-use mathlib.Core.Logic.{_⊎_, inl, inr}
-use Prim.Native.Nat.{ℕ, _-_, _<_, _≤_}
+use Prim.Native.Nat.{ℕ, _-_, _≤_}
 use borrow.Rule.Slice.PartMut.{midOf}
 use native.Mathlib.Omega.{arith}
 use lib.ListN.{take, length-take}
@@ -22,12 +20,12 @@ use Rattle.snippet.specs.Parse.{refusal}
 use Rattle.rewrite.proofs.Reach.{chain-one, stopped-one}
 use Rattle.snippet.proofs.Inverse.{no-ok, ok-inj}
 use Rattle.pairs.specs.Program.{Program}
-use Rattle.handins.specs.Encoded.{Derivation, IsHandIn}
+use Rattle.handins.specs.Encoded.{Derivation}
 use Rattle.handins.specs.File.{derivationAt}
 use Rattle.handins.proofs.Laws.{sound, complete}
 use Rattle.snippet.specs.Encode.{Bytes}
 use Rattle.judging.specs.Valid.{Valid, Names, Exactly}
-use Rattle.judging.specs.Judged.{causeOf, Settled, stopped, elsewhere, reached, There, Busy, SameStart, Decided, no-run, idle-run, apart, settled, Judged, unread, declined, accepted, OneAnswer}
+use Rattle.judging.specs.Judged.{causeOf, Settled, stopped, elsewhere, reached, Decided, no-run, idle-run, apart, settled, Judged, unread, declined, accepted, OneAnswer}
 
 module _ {m : Meaning} {v l : ℕ} {ss : List Step} {a b : Word} {s t : Registers} where
   -- steps that lead to b are not stopped, and lead nowhere else

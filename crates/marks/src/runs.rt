@@ -1,5 +1,5 @@
 ghost use mathlib.Core.Path.{_≡_};
-ghost use mathlib.Core.Bool.{Bool, false, _||_, _&&_, not};
+ghost use mathlib.Core.Bool.{false, _||_, not};
 ghost use Prim.Native.Nat.{ℕ, _<_, _≤_};
 ghost use lib.Dec.{eqb};
 ghost use Rattle.marks.specs.Marks.{marked, missing, Lowest, countBelow};

@@ -2,7 +2,6 @@
 use mathlib.Core.Bool.{Bool, _&&_, not}
 use Prim.Native.Nat.{ℕ, _/_, _%_, _^_}
 use lib.Dec.{eqb}
-use Rattle.trace.specs.declared.event.Access.{Access}
 use Rattle.ordering.specs.Meaning.{Meaning}
 
 -- Bit L of the mask is set.

@@ -1,6 +1,4 @@
 ghost use mathlib.Core.Path.{_≡_};
-ghost use Prim.Native.Nat.{ℕ};
-ghost use Rattle.ordering.specs.Meaning.{Meaning};
 ghost use Rattle.ordering.specs.Table.{sc, ibm390, tso, pso, clr, tsoSwaps, sixOnly};
 use crate::model::Model;
 use crate::model::Removal;

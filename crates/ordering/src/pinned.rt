@@ -1,6 +1,3 @@
-ghost use mathlib.Core.Path.{_≡_};
-ghost use Prim.Native.Nat.{ℕ};
-ghost use Rattle.ordering.specs.Meaning.{Meaning};
 ghost use Rattle.ordering.specs.Pinning.{pinning};
 use crate::model::Model;
 use crate::model::Removal;

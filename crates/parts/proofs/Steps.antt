@@ -1,11 +1,11 @@
 -- The parts of what is left, one at a time.
-use mathlib.Core.Path.{_≡_, refl, sym, ap, _∙_}
+use mathlib.Core.Path.{_≡_, refl, ap, _∙_}
 use mathlib.Core.List.{List, [], _∷_}
 use Prim.Native.Nat.{ℕ, zero, suc, _+_, _<_, _≤_}
 use native.Mathlib.Omega.{arith}
 use lib.ListN.{length, getD, take, drop}
 use Rattle.std.proofs.shelf.Lists.{length-drop, drop-drop, drop-more, drop-all}
-use Rattle.parts.specs.Cut.{Piece, model, pair, handIn, partLength, partEnd, cutWithin, cut, files, partsFrom}
+use Rattle.parts.specs.Cut.{model, pair, handIn, partLength, partEnd, cutWithin, cut, files, partsFrom}
 
 -- Any bound that suffices gives the same.
 enough : (n m : ℕ) (bs : List ℕ) (at : ℕ) → length bs ≤ n → length bs ≤ m → cutWithin n bs at ≡ cutWithin m bs at

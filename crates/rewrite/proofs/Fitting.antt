@@ -1,20 +1,17 @@
 -- When a step fits.
 use mathlib.Core.Path.{_≡_, refl, sym, ap, ap₂, _∙_, subst}
-use mathlib.Core.List.{List, [], _∷_, _++_}
-use mathlib.Core.Bool.{Bool, true, false}
+use mathlib.Core.List.{[], _∷_, _++_}
 use Prim.Native.Nat.{ℕ, _+_, _<_, _≤_}
 use native.Mathlib.Omega.{arith}
 use native.Mathlib.Nat.{add-assoc}
 use lib.ListN.{length, getD, take, drop}
-use Rattle.std.specs.declared.option.Option.{Option}
-use Rattle.std.specs.declared.option.Option.the-variants.{Some, None}
-use Rattle.std.proofs.shelf.Lists.{take-append-drop, append-assoc, take-at, drop-at, drop-more, length-append, length-take-le, getD-take}
+use Rattle.std.specs.declared.option.Option.the-variants.{Some}
+use Rattle.std.proofs.shelf.Lists.{take-append-drop, take-at, drop-at, drop-more, length-append, length-take-le, getD-take}
 use Rattle.std.proofs.shelf.Fronts.{at-reads}
 use Rattle.trace.specs.declared.event.Event.{Event}
 use Rattle.trace.specs.declared.event.Event.the-variants.{Load as load}
 use Rattle.trace.specs.declared.event.Access.{Access}
 use Rattle.trace.specs.Words.{Word}
-use Rattle.ordering.specs.Meaning.{Meaning}
 use Rattle.surroundings.specs.Steps.{IsAccess}
 use Rattle.rewrite.specs.declared.working.Step.{Step}
 use Rattle.rewrite.specs.declared.working.Rule.{Rule}
@@ -22,7 +19,7 @@ use Rattle.rewrite.specs.declared.working.Rule.the-variants.{Swap, Forward, Lo
 use Rattle.rewrite.specs.declared.working.Question.{Question}
 use Rattle.rewrite.specs.declared.working.Question.the-variants.{MaySwap, Nothing}
 use Rattle.rewrite.specs.declared.working.Working.{Working}
-use Rattle.rewrite.specs.Steps.{word, Turns, swap, forward, loads, stores, load-store, store-load, new-load, ruleOf, Spare, Fits, Takes, answer}
+use Rattle.rewrite.specs.Steps.{word, Turns, swap, forward, loads, stores, load-store, store-load, new-load, ruleOf, Spare, Fits}
 use Rattle.rewrite.proofs.Shapes.{access-to}
 
 same-access : {e f : Event} {a b : Access} → IsAccess e a → IsAccess f b → e ≡ f → a ≡ b

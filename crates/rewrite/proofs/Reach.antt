@@ -2,13 +2,13 @@
 use mathlib.Core.Path.{_≡_, refl, sym, ap, ap₂, _∙_, subst}
 use mathlib.Core.List.{List, [], _∷_, _++_}
 use mathlib.Core.Logic.{_⊎_, inl, inr}
-use mathlib.Core.Bool.{Bool, true, false}
+use mathlib.Core.Bool.{true}
 use Prim.Native.Nat.{ℕ, _+_, _<_, _≤_}
 use native.Mathlib.Omega.{arith}
 use lib.ListN.{length, getD, take, drop, length-take}
 use Rattle.std.proofs.shelf.Lists.{take-append-drop, take-take, drop-more, take-more, take-all, getD-take, getD-default}
 use Rattle.std.proofs.shelf.Tests.{cases-order}
-use Rattle.std.specs.declared.result.Result.the-variants.{Ok, Err}
+use Rattle.std.specs.declared.result.Result.the-variants.{Err}
 use Rattle.trace.specs.Words.{Word}
 use Rattle.ordering.specs.Meaning.{Meaning}
 use Rattle.surroundings.specs.Steps.{Relax, Invisible, here, rule3, rule4, rule5, rule6, rule7, done, next, Reaches}
@@ -20,7 +20,7 @@ use Rattle.rewrite.specs.declared.working.Rule.{Rule}
 use Rattle.rewrite.specs.declared.working.Question.{Question}
 use Rattle.rewrite.specs.declared.working.Denied.{Denied}
 use Rattle.rewrite.specs.declared.working.Denied.the-variants.{Misfit, Forbidden, Overlong}
-use Rattle.rewrite.specs.Steps.{answer, Turns, loads, stores, load-store, store-load, new-load, Fits, Takes, Applied, Replayed, Chain, none, more}
+use Rattle.rewrite.specs.Steps.{answer, Turns, loads, stores, load-store, store-load, new-load, Takes, Applied, Replayed, Chain, none, more}
 use Rattle.rewrite.proofs.Fitting.{fits-one}
 
 abbrev Step-of : Meaning → Word → Word → Type 0

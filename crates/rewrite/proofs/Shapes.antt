@@ -1,6 +1,6 @@
 -- The rules on two events, by the events' parts.
 use mathlib.Core.Path.{_≡_, refl, sym, ap, _∙_}
-use mathlib.Core.List.{List, [], _∷_}
+use mathlib.Core.List.{[], _∷_}
 use Prim.Native.Nat.{ℕ}
 use native.Mathlib.Omega.{arith}
 use Rattle.std.specs.declared.option.Option.{Option}
@@ -12,11 +12,10 @@ use Rattle.trace.specs.declared.event.Kind.the-variants as kinds
 use Rattle.trace.specs.Words.{Word, access, accessOf}
 use Rattle.ordering.specs.declared.model.Removal.the-variants as removals
 use Rattle.surroundings.specs.Steps.{IsAccess, is-load, is-store}
-use Rattle.rewrite.specs.declared.working.Rule.{Rule}
 use Rattle.rewrite.specs.declared.working.Rule.the-variants.{Swap, Forward, LoadAfterLoad, StoreBeforeStore, StoreAfterLoad, LoadAfterStore, NewLoad}
 use Rattle.rewrite.specs.declared.working.Question.{Question}
 use Rattle.rewrite.specs.declared.working.Question.the-variants.{MaySwap, Forwards, Permits, Nothing}
-use Rattle.rewrite.specs.Steps.{Turns, swap, forward, loads, stores, load-store, store-load, new-load}
+use Rattle.rewrite.specs.Steps.{Turns, swap, forward, loads, stores, load-store, store-load}
 use Rattle.rewrite.specs.Views.{asLoad, asStore}
 
 some-pair : (a b : ℕ × ℕ) → _≡_ {A = Option (ℕ × ℕ)} (Some a) (Some b) → a ≡ b

@@ -1,5 +1,4 @@
 -- What a snippet's record stands for.
-use Prim.Native.Nat.{ℕ}
 use Rattle.snippet.specs.Program.{Block}
 use Rattle.snippet.specs.Layout.{block}
 use Rattle.snippet.specs.Keeps.{Sizes, sizes}

@@ -1,5 +1,5 @@
 -- The report after the hand-ins.
-use mathlib.Core.Path.{_≡_, refl, sym, ap, _∙_, subst}
+use mathlib.Core.Path.{_≡_, refl, _∙_, subst}
 use mathlib.Core.List.{List, [], _∷_, _++_, map}
 use Prim.Native.Nat.{ℕ}
 use Rattle.std.specs.declared.option.Option.{Option}
@@ -14,7 +14,7 @@ use Rattle.cases.specs.Promise.{VerdictPromise, CountPromise, Unobservable}
 use Rattle.cases.specs.Standing.{Verdict, Counted}
 use Rattle.cases.specs.declared.case.Case.{Case}
 use Rattle.cases.specs.declared.sealed.Sealed.{Sealed}
-use Rattle.stream.specs.Printed.{Answers, Reported, Lines}
+use Rattle.stream.specs.Printed.{Answers, Lines}
 use Rattle.stream.specs.Handed.{Handed}
 
 pub same-report : (b b′ a a′ n n′ : ℕ) (v v′ : Option ℕ) → b ≡ b′ → a ≡ a′ → n ≡ n′ → v ≡ v′

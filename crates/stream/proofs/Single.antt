@@ -1,14 +1,14 @@
 -- There is one output for each stream.
 use mathlib.Core.Path.{_≡_, refl, sym, ap, ap₂, _∙_, subst}
 use mathlib.Core.List.{List, [], _∷_, _++_, map}
-use mathlib.Core.Logic.{_⊎_, inl, inr}
+use mathlib.Core.Logic.{inl, inr}
 use Prim.Native.Nat.{ℕ, suc}
 use native.Mathlib.Omega.{arith}
 use Rattle.std.proofs.shelf.Tests.{cases-lt}
 use Rattle.std.specs.declared.option.Option.{Option}
 use Rattle.std.specs.declared.option.Option.the-variants.{Some, None}
 use Rattle.std.specs.declared.result.Result.{Result}
-use Rattle.std.specs.declared.result.Result.the-variants.{Ok, Err}
+use Rattle.std.specs.declared.result.Result.the-variants.{Err}
 use Rattle.trace.specs.declared.refusal.Refusal.{Refusal}
 use Rattle.ordering.specs.Meaning.{Meaning}
 use Rattle.snippet.proofs.Inverse.{ok-inj, no-ok}
@@ -20,7 +20,7 @@ use Rattle.cases.specs.Promise as promise
 use Rattle.parts.specs.Cut.{Piece, model, pair, partsFrom, partsOf}
 use Rattle.parts.specs.Law.{bytesOf}
 use Rattle.stream.specs.Models.{modelOf}
-use Rattle.stream.specs.Printed.{causeLine, answerLine, Answers, none, next, Reported, Lines, Unfit, empty, long, unknown, Fit, FilesPrinted, declined, judged, Printed, no-stream, fit, PrintedOnce}
+use Rattle.stream.specs.Printed.{causeLine, answerLine, Answers, none, next, Reported, Lines, Unfit, empty, long, unknown, Fit, FilesPrinted, declined, judged, no-stream, fit, PrintedOnce}
 use Rattle.stream.proofs.Reporting.{same-report}
 
 how-many-one : {P : ℕ → Type 0} {n c d : ℕ} → HowMany P n c → HowMany P n d → c ≡ d

@@ -1,6 +1,6 @@
 -- A model's own step after an invisible one can be made before it.
-use mathlib.Core.List.{List, [], _∷_, _++_}
-use mathlib.Core.Logic.{_⊎_, inl, inr}
+use mathlib.Core.List.{[], _∷_, _++_}
+use mathlib.Core.Logic.{inl, inr}
 use mathlib.Core.Path.{_≡_}
 use Prim.Native.Nat.{ℕ}
 use mathlib.Core.Bool.{true}
@@ -8,7 +8,7 @@ use Rattle.trace.specs.declared.event.Event.{Event}
 use Rattle.trace.specs.declared.event.Event.the-variants.{Load as load, Store as store}
 use Rattle.trace.specs.declared.event.Access.{Access}
 use Rattle.trace.specs.Words.{Word}
-use Rattle.ordering.specs.Meaning.{Meaning, SwapsToo, Lawful}
+use Rattle.ordering.specs.Meaning.{Meaning, Lawful}
 use Rattle.surroundings.specs.Steps.{IsAccess, is-load, is-store, Relax, swap, forward, Becomes, rule3, rule4, rule5, rule6, rule7, Invisible, here, Many, done, next, Relaxes}
 
 pub joined : {R : Word → Word → Type 0} {u v w : Word} → Many R u v → Many R v w → Many R u w

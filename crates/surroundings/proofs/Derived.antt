@@ -1,13 +1,13 @@
 -- What a set of words leads to by invisible steps. If the set is closed under the model's own steps, so is that.
-use mathlib.Core.List.{List, [], _∷_, _++_, append-assoc}
-use mathlib.Core.Logic.{_⊎_, inl, inr}
+use mathlib.Core.List.{[], _∷_, _++_, append-assoc}
+use mathlib.Core.Logic.{inl, inr}
 use mathlib.Core.Path.{_≡_, refl, ap}
 use Prim.Native.Nat.{ℕ}
 use Rattle.trace.specs.declared.event.Event.{Event}
 use Rattle.trace.specs.declared.event.Event.the-variants.{Load as load, Store as store, LoadStore as loadStore, Fence as fence, Get as get, Print as print}
 use Rattle.trace.specs.Words.{Word, shown}
 use Rattle.ordering.specs.Meaning.{Meaning, Lawful}
-use Rattle.surroundings.specs.Steps.{Relax, Becomes, rule3, rule4, rule5, rule6, rule7, Invisible, here, Many, done, next, Relaxes, Reaches}
+use Rattle.surroundings.specs.Steps.{Becomes, rule3, rule4, rule5, rule6, rule7, Invisible, here, done, next, Relaxes, Reaches}
 use Rattle.surroundings.specs.Surroundings.{Interleaved, none, left, right, Hides, found, stored, exchanged, other}
 use Rattle.surroundings.proofs.Commute.{one, wholly, but-one, commutes}
 

@@ -1,13 +1,13 @@
 -- A replacement whose behaviours are reached from the original's adds no observation, in any surrounding.
-use mathlib.Core.List.{List, [], _∷_, _++_}
-use mathlib.Core.Path.{_≡_, refl, ap, sym, _∙_}
+use mathlib.Core.List.{_++_}
+use mathlib.Core.Path.{_≡_, refl, ap, _∙_}
 use Prim.Native.Nat.{ℕ}
-use lib.ListN.{getD, set}
-use Rattle.trace.specs.Words.{Word, Registers, Behaviour, behaviour, Behaviours, Observation, observation, shown}
+use lib.ListN.{set}
+use Rattle.trace.specs.Words.{Word, Behaviour, behaviour, Behaviours, shown}
 use Rattle.ordering.specs.Meaning.{Meaning, Lawful}
-use Rattle.surroundings.specs.Steps.{Relaxes, Invisible, done}
+use Rattle.surroundings.specs.Steps.{Relaxes, done}
 use Rattle.surroundings.specs.Surroundings.{Closed, closed, Joined, join, Chosen, kept, added, Interleaved, Beside, WithRegister, Hides, WithLocation, Surrounding, hole, before, after, choice, declaredRegister, declaredLocation, around, Limited, LimitedWords}
-use Rattle.surroundings.specs.Soundness.{Reached, Observed, AddsNothing}
+use Rattle.surroundings.specs.Soundness.{Reached, AddsNothing}
 use Rattle.surroundings.proofs.Commute.{joined}
 use Rattle.surroundings.proofs.Derived.{Derived, base, step, derived-relaxes, derived-reaches, carry, carry-by, invisible-under, invisible-before, interleaved-back, hides-back, invisible-shown}
 

@@ -1,5 +1,5 @@
 -- Values below v, and locations 0 to 7.
-use mathlib.Core.List.{List, [], _∷_}
+use mathlib.Core.List.{[], _∷_}
 use Prim.Native.Nat.{ℕ, _<_}
 use Rattle.trace.specs.declared.event.Event.{Event}
 use Rattle.trace.specs.declared.event.Event.the-variants.{Load, Store, LoadStore, Fence, Get, Print}

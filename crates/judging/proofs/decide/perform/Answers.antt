@@ -1,10 +1,8 @@
-use mathlib.Core.Path.{_≡_, ap, _∙_}
+use mathlib.Core.Path.{ap, _∙_}
 use mathlib.Core.Logic.{inl, inr}
 use native.Mathlib.Omega.{arith}
 use lib.ListN.{take, length}
 use Rattle.std.proofs.shelf.Lists.{take-at}
-use Rattle.std.proofs.shelf.Results.{err-from-errBy}
-use Rattle.trace.specs.Words.{Word}
 use Rattle.snippet.specs.Meant.{sizesOf, programOf}
 use Rattle.runs.specs.Runs.{wordOf}
 use Rattle.runs.proofs.Bounds.{word-few}

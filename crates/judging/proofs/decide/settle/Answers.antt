@@ -1,4 +1,4 @@
-use mathlib.Core.Path.{_≡_, sym, _∙_}
+use mathlib.Core.Path.{sym, _∙_}
 use Rattle.rewrite.specs.Steps.{word}
 use Rattle.judging.proofs.Settling.{front, start-word, stopped-at, reached-at, elsewhere-at}
 use Rattle.judging.proofs.decide.settle.Needs as need

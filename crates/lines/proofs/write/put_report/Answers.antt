@@ -1,12 +1,10 @@
-use mathlib.Core.Path.{_≡_}
-use mathlib.Core.List.{List, [], _∷_}
-use Prim.Native.Nat.{ℕ, _<_, _≤_}
+use mathlib.Core.List.{[], _∷_}
+use Prim.Native.Nat.{ℕ, _<_}
 use native.Mathlib.Omega.{arith}
 use lib.Dec.{lit<}
-use lib.ListN.{length}
 use Rattle.std.specs.declared.option.Option.{Option}
 use Rattle.std.specs.declared.option.Option.the-variants.{Some, None}
-use Rattle.lines.specs.Lines.{flagOf, runOf, written, longest}
+use Rattle.lines.specs.Lines.{flagOf}
 use Rattle.lines.proofs.Bytes.{report-fits, put-whole}
 use Rattle.lines.proofs.write.put_report.Needs as need
 

@@ -1,4 +1,4 @@
-use mathlib.Core.Path.{_≡_, sym, subst}
+use mathlib.Core.Path.{sym, subst}
 use Rattle.std.proofs.shelf.Results.{made-weaker}
 use Rattle.pairs.specs.Meant.{meant}
 use Rattle.stream.specs.Printed.{FilesPrinted, declined, judged}

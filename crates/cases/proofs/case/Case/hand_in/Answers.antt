@@ -1,4 +1,4 @@
-use mathlib.Core.Path.{_≡_, refl, sym}
+use mathlib.Core.Path.{refl}
 use mathlib.Core.List.{List}
 use Rattle.ordering.proofs.Laws.{lawful}
 use Rattle.cases.specs.History.{Call}

@@ -1,5 +1,4 @@
-use mathlib.Core.Path.{_≡_, refl, ap, _∙_}
-use Prim.Native.Nat.{ℕ}
+use mathlib.Core.Path.{refl, ap, _∙_}
 use Rattle.ordering.proofs.Laws.{lawful}
 use Rattle.snippet.specs.Keeps.{Sizes}
 use Rattle.snippet.specs.Meant.{programOf}

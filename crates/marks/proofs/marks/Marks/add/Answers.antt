@@ -1,4 +1,4 @@
-use mathlib.Core.Path.{_≡_, refl, ap, _∙_}
+use mathlib.Core.Path.{ap, _∙_}
 use Prim.Native.Nat.{ℕ, _/_, _%_, _<_}
 use native.Mathlib.Omega.{arith}
 use lib.Bits.{bitOr}
@@ -6,7 +6,6 @@ use lib.ListN.{length, getD, set}
 use Rattle.std.proofs.shelf.Bits.{one-shl}
 use Rattle.marks.specs.Marks.{bitOf}
 use Rattle.marks.proofs.Words.{bit-added}
-use borrow.Author.Needs.{needs}
 use Rattle.marks.proofs.marks.Marks.add.Needs as need
 
 pub returns : need.returns

@@ -1,4 +1,4 @@
-use mathlib.Core.Path.{_≡_, ap, _∙_}
+use mathlib.Core.Path.{ap, _∙_}
 use Rattle.parts.specs.Left.{leftAt, rest}
 use Rattle.parts.proofs.Steps.{pair-at}
 use Rattle.parts.proofs.cutter.Parts.take_pair.Needs as need

@@ -1,7 +1,6 @@
 use native.Mathlib.Omega.{arith}
 use mathlib.Core.Path.{_≡_, refl, sym, subst}
-use Prim.Native.Nat.{ℕ, _+_, _<_}
-use lib.ListN.{length}
+use Prim.Native.Nat.{ℕ, _+_}
 use Rattle.trace.specs.Words.{Word}
 use Rattle.rewrite.specs.Steps.{word, Fits}
 use Rattle.rewrite.proofs.Fitting.{fit-pair, make-pair, fits-one, word-long, word-short, word-at}

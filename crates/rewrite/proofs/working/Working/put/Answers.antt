@@ -1,6 +1,5 @@
 use native.Mathlib.Omega.{arith}
-use mathlib.Core.Path.{_≡_, refl, sym, subst, ap}
-use lib.ListN.{length}
+use mathlib.Core.Path.{refl, sym, subst}
 use Rattle.trace.specs.Words.{Word}
 use Rattle.rewrite.specs.declared.working.Question.the-variants.{Nothing}
 use Rattle.rewrite.specs.Steps.{word, Fits}

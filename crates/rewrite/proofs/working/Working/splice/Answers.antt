@@ -1,6 +1,5 @@
 use Rattle.rewrite.proofs.Lists.{spliced, spliced-long}
 use mathlib.Core.Path.{_∙_}
-use native.Mathlib.Omega.{arith}
 use borrow.Author.Needs.{needs}
 use Rattle.rewrite.proofs.working.Working.splice.Needs as need
 
