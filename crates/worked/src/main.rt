@@ -6,6 +6,9 @@ ghost use Rattle.worked.specs.Worked.{Worked, by-rule, as-it-is};
 ghost use Rattle.pairs.specs.Encoded.{encodePair};
 ghost use Rattle.handins.specs.Encoded.{encodeHandIn};
 ghost use Rattle.worked.specs.Pairs.{storeBack, storeLater, storeSooner, loadOnce, loadBack, pair, sized, loadMaybe};
+use cases::Call;
+use cases::Standing;
+use cases::play;
 use judging::judge;
 use ordering::Clr;
 use ordering::ClrModel;
@@ -27,6 +30,7 @@ use runs::run;
 use snippet::Snippet;
 use std::fmt;
 use std::io;
+use surroundings::Sets;
 use trace::Event;
 use trace::Refusal;
 
@@ -175,6 +179,49 @@ fn derived() -> u8
     8
 }
 
+// Every behaviour and every word, under every number.
+struct Everything;
+
+impl Sets for Everything as EverythingSets {
+    ghost sets = { λ n b. Unit {0} };
+
+    ghost words = { λ n w. Unit {0} };
+}
+
+// A line for the standing after so many calls.
+fn show_standing(rt: &LibcRuntime, made: usize, standing: Standing) -> io::Result<()> {
+    let matched = standing.matched;
+    let active = standing.active;
+    match standing.lowest {
+        None => println!(rt, "after {made} calls: {matched} of {active} matched, sound"),
+        Some(run) => println!(rt, "after {made} calls: {matched} of {active} matched, run {run} is not"),
+    }
+}
+
+// A case on SC, at its opening and after each call.
+fn show_played(rt: &LibcRuntime) -> io::Result<()> {
+    let Ok(pair) = read_pair(&store_back()) else {
+        return println!(rt, "the pair is declined");
+    };
+    let (run0, run1) = (by_rule(5, 0, 0), by_rule(5, 1, 1));
+    let (run2, run3) = (as_it_is(2, 2), as_it_is(3, 3));
+    let calls = [
+        Call::HandIn(&run3),
+        Call::HandIn(&run0),
+        Call::Verdict,
+        Call::HandIn(&run0[0..7]),
+        Call::HandIn(&run2),
+        Call::Count,
+        Call::HandIn(&run1),
+    ];
+    let mut standings = [Standing { lowest: None, matched: 0, active: 0 }; 8];
+    play::<Sc, Everything>(pair, Sc, &calls, &mut standings);
+    for (made, standing) in standings.iter().enumerate() {
+        show_standing(rt, made, *standing)?;
+    }
+    Ok(())
+}
+
 fn main(rt: LibcRuntime) -> io::Result<()> {
     let count = derived();
     println!(rt, "{count} cases follow from the definitions")?;
@@ -188,5 +235,6 @@ fn main(rt: LibcRuntime) -> io::Result<()> {
     show_models(&rt, "7 run 1 from 5 by rule 2", &load_back(), &by_rule(2, 1, 5))?;
     show_models(&rt, "7 run 1 from 5 by rule 6", &load_back(), &by_rule(6, 1, 5))?;
     show_idle(&rt, &load_maybe())?;
-    show_numbers(&rt)
+    show_numbers(&rt)?;
+    show_played(&rt)
 }
