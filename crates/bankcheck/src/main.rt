@@ -1,5 +1,7 @@
 //! Judges the stream on standard input and prints the lines.
 
+#![tactic(auto)]
+
 use std::io;
 use std::io::{Read, Write};
 use stream::judge_stream;

@@ -1,5 +1,7 @@
 //! The judge as a C function, for programs in other languages.
 
+#![tactic(auto)]
+
 ghost use Rattle.stream.specs.Printed.{PrintedOnce};
 ghost use Rattle.capi.specs.Written.{Filled, Written};
 

@@ -1,5 +1,7 @@
 //! A case: a pair, a model and the hand-ins so far, with a verdict and a count at any moment.
 
+#![tactic(auto)]
+
 mod active;
 mod ask;
 mod case;

@@ -1,5 +1,7 @@
 //! Hand-in files: which run of the replacement follows from which run of the original, and how.
 
+#![tactic(auto)]
+
 mod hand_in;
 mod read;
 

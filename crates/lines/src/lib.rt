@@ -1,5 +1,7 @@
 //! Printed lines: the answer to a file or a hand-in, and the report on a case.
 
+#![tactic(auto)]
+
 mod line;
 mod write;
 

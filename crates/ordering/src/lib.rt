@@ -1,5 +1,7 @@
 //! Ordering models: which accesses a processor may reorder, and what an optimiser may then remove.
 
+#![tactic(auto)]
+
 mod model;
 mod named;
 mod pinned;

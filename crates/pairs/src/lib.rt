@@ -1,5 +1,7 @@
 //! Pair files: an original and a replacement, read from bytes.
 
+#![tactic(auto)]
+
 mod header;
 mod pair;
 mod read;

@@ -1,5 +1,7 @@
 //! A stream cut into its parts: a model byte, a pair file, and hand-in files, one after another.
 
+#![tactic(auto)]
+
 mod cutter;
 mod next;
 mod part;

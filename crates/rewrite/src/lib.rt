@@ -1,5 +1,7 @@
 //! Rewriting steps on a working word, and the judging of a derivation step by step.
 
+#![tactic(auto)]
+
 mod look;
 mod working;
 

@@ -1,5 +1,7 @@
 //! Runs of snippets, by number.
 
+#![tactic(auto)]
+
 mod choices;
 mod full;
 mod ran;

@@ -3,6 +3,8 @@
 //! A line of the table has a stream's name, a tab, and its bytes in hexadecimal. Where another tab
 //! and a number follow, zeros are added until the stream has so many bytes.
 
+#![tactic(auto)]
+
 ghost use Rattle.std.specs.Prelude.{◌<◌};
 
 use std::alloc::{AllocError, Global};

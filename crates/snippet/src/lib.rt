@@ -1,5 +1,7 @@
 //! Snippets: how their statements are kept, and how they are read from bytes.
 
+#![tactic(auto)]
+
 mod body;
 mod limits;
 mod read;

@@ -1,6 +1,8 @@
 //! The judging of a whole stream: a model byte, a pair file and hand-ins, and every line that is
 //! printed for them.
 
+#![tactic(auto)]
+
 mod judge;
 mod named;
 mod print;

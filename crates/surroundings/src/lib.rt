@@ -1,5 +1,7 @@
 //! What may stand around a snippet, and why steps of rules 1 to 7 are sound in all of it.
 
+#![tactic(auto)]
+
 ghost use Rattle.std.specs.Prelude.{ℕ};
 ghost use Rattle.trace.specs.Words.{Word, Behaviours};
 ghost use Rattle.surroundings.specs.Soundness.{SoundEverywhere};

@@ -1,5 +1,7 @@
 //! What a run does to memory, event by event, and why a call is declined.
 
+#![tactic(auto)]
+
 mod event;
 mod refusal;
 mod same;

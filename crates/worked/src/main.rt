@@ -1,6 +1,8 @@
 //! Worked pairs: what the definitions answer to hand-ins for them is derived, and what the library
 //! answers is printed.
 
+#![tactic(auto)]
+
 ghost use Rattle.std.specs.Prelude.{◌≡◌};
 ghost use Rattle.worked.specs.Worked.{Worked, by_rule, as_it_is};
 ghost use Rattle.pairs.specs.Encoded.{encode_pair};
