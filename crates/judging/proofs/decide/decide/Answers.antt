@@ -4,21 +4,21 @@ use Rattle.judging.proofs.Deciding.{no_replacement, no_original, found_idle, fou
 use Rattle.judging.proofs.decide.decide.Goals as goal
 use Rattle.judging.proofs.decide.decide.Goals.{then-wanted-via-then-wanted, then-wanted-via-else-wanted+then-given}
 
-pub returns-in-err-wanted : goal.returns-in-err-wanted
-returns-in-err-wanted g c =
+pub returns-in_err-wanted : goal.returns-in_err-wanted
+returns-in_err-wanted g c =
     let p = err_from_is_err_and c.from-residual.result c.from-residual.ensures.1 in
-    let e = c.in-err-wanted.ensures in
-    rw (p.1, p.2, e.1) (no_replacement (g.M.Model.meaning c.args.model.now) c.args.pair.now c.args.hand-in.now e.0)
+    let e = c.in_err-wanted.ensures in
+    rw (p.1, p.2, e.1) (no_replacement (g.M.Model.meaning c.args.model.now) c.args.pair.now c.args.hand_in.now e.0)
 
-pub returns-in-err-given : goal.returns-in-err-given
-returns-in-err-given g c =
-    let p = err_from_is_err_and c.from-residual-in-err-given.result c.from-residual-in-err-given.ensures.1 in
-    let e = c.in-err-given.ensures in
-    rw (p.1, p.2, e.1) (no_original (g.M.Model.meaning c.args.model.now) c.args.pair.now c.args.hand-in.now e.0)
+pub returns-in_err-given : goal.returns-in_err-given
+returns-in_err-given g c =
+    let p = err_from_is_err_and c.from-residual-in_err-given.result c.from-residual-in_err-given.ensures.1 in
+    let e = c.in_err-given.ensures in
+    rw (p.1, p.2, e.1) (no_original (g.M.Model.meaning c.args.model.now) c.args.pair.now c.args.hand_in.now e.0)
 
 pub returns-then-wanted : goal.returns-then-wanted
 returns-then-wanted g c =
-    found_idle (g.M.Model.meaning c.args.model.now) c.args.pair.now c.args.hand-in.now c.in-ok-wanted.wanted c.in-ok-given.given c.in-ok-wanted.ensures c.in-ok-given.ensures
+    found_idle (g.M.Model.meaning c.args.model.now) c.args.pair.now c.args.hand_in.now c.in_ok-wanted.wanted c.in_ok-given.given c.in_ok-wanted.ensures c.in_ok-given.ensures
     (elim c.then-wanted.branch [
       | then-wanted-via-then-wanted w ↦ inl w.if-wanted.true
       | then-wanted-via-else-wanted+then-given w ↦ inr w.if-given.true
@@ -26,10 +26,10 @@ returns-then-wanted g c =
 
 pub returns-then-not-same : goal.returns-then-not-same
 returns-then-not-same g c =
-    found_apart (g.M.Model.meaning c.args.model.now) c.args.pair.now c.args.hand-in.now c.in-ok-wanted.wanted c.in-ok-given.given c.in-ok-wanted.ensures c.in-ok-given.ensures
+    found_apart (g.M.Model.meaning c.args.model.now) c.args.pair.now c.args.hand_in.now c.in_ok-wanted.wanted c.in_ok-given.given c.in_ok-wanted.ensures c.in_ok-given.ensures
     c.if-wanted.false c.if-given.false c.if-not-same.ensures
 
 pub returns : goal.returns
 returns g c =
-    found_settled (g.M.Model.meaning c.args.model.now) c.args.pair.now c.args.hand-in.now c.in-ok-wanted.wanted c.in-ok-given.given c.in-ok-wanted.ensures c.in-ok-given.ensures
+    found_settled (g.M.Model.meaning c.args.model.now) c.args.pair.now c.args.hand_in.now c.in_ok-wanted.wanted c.in_ok-given.given c.in_ok-wanted.ensures c.in_ok-given.ensures
     c.if-wanted.false c.if-given.false c.if-not-same.ensures c.settle.result c.settle.ensures

@@ -4,7 +4,7 @@ use Rattle.judging.proofs.decide.judge.Goals as goal
 pub returns : goal.returns
 returns g c =
     record {
-      judged = c.judge-bytes.ensures;
-      exactly = exactly (λ k. (c.type-inv.bytes k).fits) c.judge-bytes.result c.judge-bytes.ensures;
+      judged = c.judge_bytes.ensures;
+      exactly = exactly (λ k. (c.type_inv.bytes k).fits) c.judge_bytes.result c.judge_bytes.ensures;
       one = judged_one c.args.bytes.now;
     }

@@ -7,7 +7,7 @@ use Rattle.judging.proofs.decide.settle.Goals.{else-is-via-then-is+else-same, el
 pub returns-in-Err : goal.returns-in-Err
 returns-in-Err g c =
     let a = c.args.given.now in
-    stopped_at c.in-Err.stopped (word c.replay.new.self) (word c.of-word.result) (start_word a.length a.events c.requires.given c.of-word.ensures) c.cause-of.result c.cause-of.ensures c.in-Err.ensures.replayed
+    stopped_at c.in-Err.stopped (word c.replay.new.self) (word c.of-word.result) (start_word a.length a.events c.requires.given c.of-word.ensures) c.cause_of.result c.cause_of.ensures c.in-Err.ensures.replayed
 
 pub returns-then-same : goal.returns-then-same
 returns-then-same g c =

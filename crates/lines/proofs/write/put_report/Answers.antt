@@ -7,8 +7,8 @@ flag_small : (o : Option ℕ) → flag_of o < 2
 flag_small None = lit< tt
 flag_small (Some run) = lit< tt
 
-pub put-numbers-requires : goal.put-numbers-requires
-put-numbers-requires c =
+pub put_numbers-requires : goal.put_numbers-requires
+put_numbers-requires c =
     let r = c.args.report in
     let small = flag_small r.lowest in
     record { some = lit< tt; room = omega (arith, report_fits r.model r.active r.matched c.flag-flag.result c.run-run.result (omega arith) (omega arith) (omega arith) (omega arith) (omega arith)) }
@@ -18,7 +18,7 @@ returns c =
     let r = c.args.report in
     let small = flag_small r.lowest in
     rw (← c.flag-flag.ensures, ← c.run-run.ensures)
-    (put_whole r.model (r.active ∷ r.matched ∷ c.flag-flag.result ∷ c.run-run.result ∷ []) c.args.out.now c.put-numbers.new.out c.put-numbers.result
+    (put_whole r.model (r.active ∷ r.matched ∷ c.flag-flag.result ∷ c.run-run.result ∷ []) c.args.out.now c.put_numbers.new.out c.put_numbers.result
     (omega arith, (omega arith, (omega arith, (omega arith, (omega arith, tt)))))
     (report_fits r.model r.active r.matched c.flag-flag.result c.run-run.result (omega arith) (omega arith) (omega arith) (omega arith) (omega arith))
-    c.put-numbers.ensures.place c.put-numbers.ensures.bytes)
+    c.put_numbers.ensures.place c.put_numbers.ensures.bytes)

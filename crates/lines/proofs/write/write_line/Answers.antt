@@ -9,9 +9,9 @@ pub returns : goal.returns
 returns c =
     let old = c.args.out.now in
     let bytes : List ℕ = written (numbers_of c.args.line) in
-    let put = c.put-line.ensures in
+    let put = c.put_line.ensures in
     let enough : ltb (length old) longest ≡ false = le-ltb (length old) longest c.if-out-lt-LONGEST.false in
-    let is : c.put-line.new.out ≡ bytes ++ drop (length bytes) old = put.bytes ∙ sets_start old bytes (omega arith) in
-    let front : take c.put-line.result c.put-line.new.out ≡ bytes =
+    let is : c.put_line.new.out ≡ bytes ++ drop (length bytes) old = put.bytes ∙ sets_start old bytes (omega arith) in
+    let front : take c.put_line.result c.put_line.new.out ≡ bytes =
     rw (put.size, is) (take_at bytes (drop (length bytes) old) (length bytes) (omega arith)) in
     record { answer = rw (enough, put.size); bytes = rw enough is; reads = (omega arith, ap read_line front ∙ put.reads) }

@@ -14,36 +14,36 @@ block_at : (ns : List Statement) (at to : ℕ) → at < to → (next : ℕ) → 
     → block ns at to ≡ then (command_of (block ns) (get_or ns at Skip) at to) (block ns next to)
 block_at ns at to h next e = rw e (block_then ns at to h)
 
-pub run-block-returns-then-at-to : goal.run-block-returns-then-at-to
-run-block-returns-then-at-to t c =
+pub run_block-returns-then-at-to : goal.run_block-returns-then-at-to
+run_block-returns-then-at-to t c =
     rw (block_end c.args.body.now.statements c.args.at c.args.to c.if-at-to.true)
     record { events = refl; ends = record { fits = omega arith; written = omega arith; registers = refl; rest = refl } }
 
-pub run-block-returns-in-err-run-statement : goal.run-block-returns-in-err-run-statement
-run-block-returns-in-err-run-statement t c =
+pub run_block-returns-in_err-run_statement : goal.run_block-returns-in_err-run_statement
+run_block-returns-in_err-run_statement t c =
     let ns = c.args.body.now.statements in
     let p = err_from_is_err_and c.from-residual.result c.from-residual.ensures.1 in
-    let e = c.in-err-run-statement.ensures in
+    let e = c.in_err-run_statement.ensures in
     let both = stopped (block_then ns c.args.at c.args.to c.if-at-to.false) _ _ _ _ _ _ e.events e.ends in
     record { events = both.0; ends = rw p.1 both.1 }
 
-pub run-block-returns : goal.run-block-returns
-run-block-returns t c =
+pub run_block-returns : goal.run_block-returns
+run_block-returns t c =
     let ns = c.args.body.now.statements in
-    let e = c.in-ok-run-statement.ensures in
+    let e = c.in_ok-run_statement.ensures in
     let is = block_at ns c.args.at c.args.to c.if-at-to.false c.next.result c.next.ensures.value in
-    let both = carried is _ _ _ _ _ _ _ _ _ _ _ _ _ _ e.events e.ends c.run-block.ensures.events c.run-block.ensures.ends in
+    let both = carried is _ _ _ _ _ _ _ _ _ _ _ _ _ _ e.events e.ends c.run_block.ensures.events c.run_block.ensures.ends in
     record { events = both.0; ends = both.1 }
 
-pub run-declared-returns-in-err-run-block : goal.run-declared-returns-in-err-run-block
-run-declared-returns-in-err-run-block t c =
-    record { restored = (held c.run-block.new.registers, search rules); events = search rules; ends = search rules }
+pub run_declared-returns-in_err-run_block : goal.run_declared-returns-in_err-run_block
+run_declared-returns-in_err-run_block t c =
+    record { restored = (held c.run_block.new.registers, search rules); events = search rules; ends = search rules }
 
-pub run-declared-returns : goal.run-declared-returns
-run-declared-returns t c =
-    let e = c.in-ok-run-block.ensures in
+pub run_declared-returns : goal.run_declared-returns
+run_declared-returns t c =
+    let e = c.in_ok-run_block.ensures in
     record {
-      restored = (held c.run-block.new.registers, search rules);
+      restored = (held c.run_block.new.registers, search rules);
       events = search rules;
       ends = record { fits = search rules; written = search rules; registers = search rules; rest = search rules };
     }

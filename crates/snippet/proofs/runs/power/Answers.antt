@@ -6,8 +6,8 @@ use Rattle.snippet.proofs.runs.power.Goals as goal
 pub loop-i-init : goal.loop-i-init
 loop-i-init c = (sym (pow-zero c.args.base), omega arith)
 
-pub overflow-mul-total : goal.overflow-mul-total
-overflow-mul-total c = let h = product_few c.loop-i.total c.args.base c.loop-i.invariant.1 c.requires.1 in search rules
+pub overflow_mul-total : goal.overflow_mul-total
+overflow_mul-total c = let h = product_few c.loop-i.total c.args.base c.loop-i.invariant.1 c.requires.1 in search rules
 
 pub returns-then-total-gt4096 : goal.returns-then-total-gt4096
 returns-then-total-gt4096 c =

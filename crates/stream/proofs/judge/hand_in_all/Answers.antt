@@ -9,9 +9,9 @@ loop-bytes-init g c = ([], refl, c.requires.parts, handed_none g.M.Model.meaning
 pub loop-bytes-preserved : goal.loop-bytes-preserved
 loop-bytes-preserved g c =
     let (taken, whole, hs, handed) = c.loop-bytes.invariant in
-    let h = c.hand-in.ensures in
-    part_more g.M.Model.meaning c.args.case.now c.loop-bytes.case c.hand-in.new.self
+    let h = c.hand_in.ensures in
+    part_more g.M.Model.meaning c.args.case.now c.loop-bytes.case c.hand_in.new.self
     (left c.args.parts) taken (left c.loop-bytes.parts) (left c.next.new.self) _
-    (vec_items c.loop-bytes.out) (vec_items c.print.new.out) c.in-Some-HandIn.bytes.now c.hand-in.result c.answer.result
+    (vec_items c.loop-bytes.out) (vec_items c.print.new.out) c.in-Some-HandIn.bytes.now c.hand_in.result c.answer.result
     whole hs handed c.in-Some-HandIn.ensures.takes (search rules)
-    h.pair h.model h.answer h.follows h.promise c.answer.ensures c.in-ok-print.ensures
+    h.pair h.model h.answer h.follows h.promise c.answer.ensures c.in_ok-print.ensures

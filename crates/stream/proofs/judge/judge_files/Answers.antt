@@ -7,7 +7,7 @@ use Rattle.stream.proofs.judge.judge_files.Goals as goal
 pub returns-in-Ok : goal.returns-in-Ok
 returns-in-Ok c =
     let e = c.in-Ok.ensures in
-    IfOk-weaker c.judge-pair.result _ _ (λ v l. judged (meant c.in-Ok.pair) e.gives e.judged.is l) c.judge-pair.ensures
+    IfOk-weaker c.judge_pair.result _ _ (λ v l. judged (meant c.in-Ok.pair) e.gives e.judged.is l) c.judge_pair.ensures
 
 pub returns-in-Err : goal.returns-in-Err
 returns-in-Err c =

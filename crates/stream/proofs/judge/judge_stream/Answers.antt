@@ -4,30 +4,30 @@ use Rattle.stream.specs.Printed.{most_bytes, Printed, no_stream, fit, long}
 use Rattle.stream.proofs.Opening.{is_model, no_first, no_model, fit_made}
 use Rattle.stream.proofs.Single.{printed_once}
 use Rattle.stream.proofs.judge.judge_stream.Goals as goal
-use Rattle.stream.proofs.judge.judge_stream.Goals.{in-default-via-in-Some·+in-Pair·, in-default-via-in-None·}
+use Rattle.stream.proofs.judge.judge_stream.Goals.{in_default-via-in-Some·+in-Pair·, in_default-via-in-None·}
 
 pub returns-then-stream-gt-LONGEST : goal.returns-then-stream-gt-LONGEST
 returns-then-stream-gt-LONGEST c = record {
-  printed = IfOk-weaker c.decline-stream.result _ _ (λ v q. subst (Printed _) (sym q) (no_stream (long c.if-stream-gt-LONGEST.true))) c.decline-stream.ensures;
+  printed = IfOk-weaker c.decline_stream.result _ _ (λ v q. subst (Printed _) (sym q) (no_stream (long c.if-stream-gt-LONGEST.true))) c.decline_stream.ensures;
   once = printed_once _;
 }
 
-pub returns-in-default : goal.returns-in-default
-returns-in-default c =
+pub returns-in_default : goal.returns-in_default
+returns-in_default c =
     let n = c.new-parts.ensures in
-    let other : is_model c.next.result ≡ false = elim c.in-default.branch [ in-default-via-in-Some·+in-Pair· w ↦ search rules | in-default-via-in-None· w ↦ search rules ] in
+    let other : is_model c.next.result ≡ false = elim c.in_default.branch [ in_default-via-in-Some·+in-Pair· w ↦ search rules | in_default-via-in-None· w ↦ search rules ] in
     let no = no_first c.args.stream.now n.rejoins c.new-parts.result c.next.new.self c.next.result n.parts c.next.ensures.takes other in
     record {
-      printed = IfOk-weaker c.decline-stream-in-default.result _ _ (λ v q. subst (Printed _) (sym q) (no_stream no)) c.decline-stream-in-default.ensures;
+      printed = IfOk-weaker c.decline_stream-in_default.result _ _ (λ v q. subst (Printed _) (sym q) (no_stream no)) c.decline_stream-in_default.ensures;
       once = printed_once _;
     }
 
-pub returns-in-default-model-named : goal.returns-in-default-model-named
-returns-in-default-model-named c =
+pub returns-in_default-model_named : goal.returns-in_default-model_named
+returns-in_default-model_named c =
     let n = c.new-parts.ensures in
-    let no = no_model c.args.stream.now n.rejoins _ _ (sym n.parts ∙ c.in-Some-Model.ensures.takes) c.in-Some-Model.byte (search rules) c.in-default-model-named.ensures in
+    let no = no_model c.args.stream.now n.rejoins _ _ (sym n.parts ∙ c.in-Some-Model.ensures.takes) c.in-Some-Model.byte (search rules) c.in_default-model_named.ensures in
     record {
-      printed = IfOk-weaker c.decline-stream-in-default-model-named.result _ _ (λ v q. subst (Printed _) (sym q) (no_stream no)) c.decline-stream-in-default-model-named.ensures;
+      printed = IfOk-weaker c.decline_stream-in_default-model_named.result _ _ (λ v q. subst (Printed _) (sym q) (no_stream no)) c.decline_stream-in_default-model_named.ensures;
       once = printed_once _;
     }
 
@@ -38,6 +38,6 @@ returns c =
     let f =
     fit_made c.args.stream.now n.rejoins _ _ (sym n.parts ∙ c.in-Some-Model.ensures.takes) c.in-Some-Model.byte (search rules) few _ _ c.in-Some.ensures _ _ c.in-Some-Pair.ensures.takes c.in-Some-Pair.bytes.now (search rules) in
     record {
-      printed = IfOk-weaker c.judge-files.result _ _ (λ v p. fit f p) c.judge-files.ensures;
+      printed = IfOk-weaker c.judge_files.result _ _ (λ v p. fit f p) c.judge_files.ensures;
       once = printed_once _;
     }

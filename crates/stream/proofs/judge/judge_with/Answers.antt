@@ -9,7 +9,7 @@ returns g c =
     let o = c.open-case.ensures in
     let s = c.seal.ensures in
     let r = c.report.ensures in
-    lines_made g.M.Model.meaning g.M.Model.number c.args.model c.args.pair c.open-case.result c.hand-in-all.new.case
-    (map bytes_of (left c.args.parts)) (vec_items c.hand-in-all.new.out) (vec_items c.print.new.out) c.seal.result c.report.result
-    o.pair o.model c.in-ok-hand-in-all.ensures
-    s.model s.count s.verdict r.model r.active r.matched r.lowest c.in-ok-print.ensures
+    lines_made g.M.Model.meaning g.M.Model.number c.args.model c.args.pair c.open-case.result c.hand_in_all.new.case
+    (map bytes_of (left c.args.parts)) (vec_items c.hand_in_all.new.out) (vec_items c.print.new.out) c.seal.result c.report.result
+    o.pair o.model c.in_ok-hand_in_all.ensures
+    s.model s.count s.verdict r.model r.active r.matched r.lowest c.in_ok-print.ensures

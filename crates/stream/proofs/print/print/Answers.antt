@@ -10,4 +10,4 @@ ok_size e = cc
 pub returns : goal.returns
 returns c =
     let line = written (numbers_of c.args.line) in
-    added c.extend-from-slice.result _ _ line _ _ c.in-Ok.length (ok_size c.in-Ok.ensures.answer) c.in-Ok.ensures.bytes c.extend-from-slice.ensures.items
+    added c.extend_from_slice.result _ _ line _ _ c.in-Ok.length (ok_size c.in-Ok.ensures.answer) c.in-Ok.ensures.bytes c.extend_from_slice.ensures.items

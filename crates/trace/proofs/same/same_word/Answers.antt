@@ -10,11 +10,11 @@ same_at i d e = ap (λ (w : Word). get_or w i d) e
 pub returns-then-a-b : goal.returns-then-a-b
 returns-then-a-b c e = c.if-a-b.true (ap length e)
 
-pub returns-then-not-same-event : goal.returns-then-not-same-event
-returns-then-not-same-event c e = c.if-not-same-event.ensures (same_at c.loop-i.i _ e)
+pub returns-then-not-same_event : goal.returns-then-not-same_event
+returns-then-not-same_event c e = c.if-not-same_event.ensures (same_at c.loop-i.i _ e)
 
 pub loop-i-preserved : goal.loop-i-preserved
-loop-i-preserved c = take_more_same c.args.a.now c.args.b.now c.loop-i.i _ (omega arith) (omega arith) c.loop-i.invariant c.if-not-same-event.ensures
+loop-i-preserved c = take_more_same c.args.a.now c.args.b.now c.loop-i.i _ (omega arith) (omega arith) c.loop-i.invariant c.if-not-same_event.ensures
 
 pub returns : goal.returns
 returns c =

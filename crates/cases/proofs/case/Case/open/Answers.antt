@@ -8,8 +8,8 @@ use Rattle.cases.proofs.Histories.{marks_none}
 use Rattle.cases.proofs.Cases.{following, standing}
 use Rattle.cases.proofs.case.Case.open.Goals as goal
 
-pub invariant-of-result : goal.invariant-of-result
-invariant-of-result g c = (λ k. c.active-runs-active.ensures k ∙ ap (λ (z : Sizes). is_active z (program_of c.args.pair.replacement) k) (same_sizes c.args.pair), tt)
+pub invariant_of-result : goal.invariant_of-result
+invariant_of-result g c = (λ k. c.active_runs-active.ensures k ∙ ap (λ (z : Sizes). is_active z (program_of c.args.pair.replacement) k) (same_sizes c.args.pair), tt)
 
 pub returns : goal.returns
 returns g c =

@@ -14,8 +14,8 @@ returns g c =
     let law = lawful g.M.Model.meaning met.within met.together met.five met.six m in
     let step = λ (h : List Call) (f : Follows g.M.Model.meaning s h). following g.M.Model.meaning s (marks_verdict h (marking g.M.Model.meaning s f)) in
     record {
-      marks = c.first-missing.ensures;
-      promise = λ h f. (standing g.M.Model.meaning s law f).verdict c.first-missing.result c.first-missing.ensures;
+      marks = c.first_missing.ensures;
+      promise = λ h f. (standing g.M.Model.meaning s law f).verdict c.first_missing.result c.first_missing.ensures;
       follows = step;
       stands = λ h f. standing g.M.Model.meaning s law (step h f);
     }

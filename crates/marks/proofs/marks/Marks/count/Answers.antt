@@ -9,8 +9,8 @@ pub loop-i-init : goal.loop-i-init
 unfolding count_below
 loop-i-init c = refl
 
-pub overflow-add-total : goal.overflow-add-total
-overflow-add-total c =
+pub overflow_add-total : goal.overflow_add-total
+overflow_add-total c =
     let s = c.args.self.now in
     let w = get_or s.words c.loop-i.i 0 in
     let small : w < 2 ^ 64 = search rules in

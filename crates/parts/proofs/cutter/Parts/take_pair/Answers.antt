@@ -7,4 +7,4 @@ pub returns : goal.returns
 returns c =
     let p = c.args.self.now in
     let e = ap (λ s. left_at s (rest p) p.at) c.requires ∙ pair_at_lem p.stream.now p.at in
-    record { takes = cc; stream = c.take-file-at.ensures.stream }
+    record { takes = cc; stream = c.take_file-at.ensures.stream }

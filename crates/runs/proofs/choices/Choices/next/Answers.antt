@@ -3,8 +3,8 @@ use Rattle.runs.specs.Runs.{first, others}
 use Rattle.runs.proofs.Digits.{digits_next, div_below}
 use Rattle.runs.proofs.choices.Choices.next.Goals as goal
 
-pub invariant-of-self : goal.invariant-of-self
-invariant-of-self c =
+pub invariant_of-self : goal.invariant_of-self
+invariant_of-self c =
     let s = c.args.self.now in
     (s.two, (div_below s.base s.left s.rest (omega (arith, s.two)) (omega arith) s.few, tt))
 

@@ -17,8 +17,8 @@ pub returns-then-number-snippet : goal.returns-then-number-snippet
 returns-then-number-snippet c =
     inl (record { number = omega (arith, count_is c.args.snippet.now); refusal = refl; events = refl; registers = refl })
 
-pub overflow-sub-taken : goal.overflow-sub-taken
-overflow-sub-taken c =
+pub overflow_sub-taken : goal.overflow_sub-taken
+overflow_sub-taken c =
     let s = c.args.snippet.now in
     let is = is_run (sizes_of s) (program_of s) c.args.number c.opened.ensures.start c.opened.ensures.choices in
     let e = c.in-Ok.ensures.ends.rest ∙ ap (λ (o : Run). o.rest) is in

@@ -5,4 +5,4 @@ use Rattle.runs.proofs.runner.calls.run.Goals as goal
 pub returns : goal.returns
 returns c =
     let s = c.args.snippet.now in
-    record { answer = c.carry-out.ensures; exact = behaviours_are_runs (sizes_of s) (program_of s) s.body.limits.few_values }
+    record { answer = c.carry_out.ensures; exact = behaviours_are_runs (sizes_of s) (program_of s) s.body.limits.few_values }

@@ -6,38 +6,38 @@ use Rattle.snippet.specs.Parse.{one, two, parse_b}
 use Rattle.std.proofs.lemmas.Result.{err_from_is_err_and}
 use Rattle.snippet.proofs.read.blocks.+read_block_read_branch_read_declare_read_statement.Goals as goal
 
-pub read-block-returns-then-at-end : goal.read-block-returns-then-at-end
-read-block-returns-then-at-end t c =
+pub read_block-returns-then-at-end : goal.read_block-returns-then-at-end
+read_block-returns-then-at-end t c =
     record {
       reads = by_suc _ _ (λ g h. rw (eq-eqb c.args.at c.args.end c.if-at-end.true)
           record { body = end; is = refl; laid = refl; count = omega arith });
       few = search rules;
     }
 
-pub read-block-returns-in-err-next : goal.read-block-returns-in-err-next
-read-block-returns-in-err-next t c =
+pub read_block-returns-in_err-next : goal.read_block-returns-in_err-next
+read_block-returns-in_err-next t c =
     let p = err_from_is_err_and c.from-residual.result c.from-residual.ensures.1 in
     record {
       reads = by_suc _ _ (λ g h.
-          rw (p.1, p.2, ne_eqb c.args.at c.args.end c.if-at-end.false, c.in-err-next.ensures.reads g h) refl);
+          rw (p.1, p.2, ne_eqb c.args.at c.args.end c.if-at-end.false, c.in_err-next.ensures.reads g h) refl);
       few = rw p.1 tt;
     }
 
-pub read-block-returns-in-err-all : goal.read-block-returns-in-err-all
-read-block-returns-in-err-all t c =
-    let p = err_from_is_err_and c.from-residual-in-err-all.result c.from-residual-in-err-all.ensures.1 in
-    let w = c.in-ok-next.ensures in
+pub read_block-returns-in_err-all : goal.read_block-returns-in_err-all
+read_block-returns-in_err-all t c =
+    let p = err_from_is_err_and c.from-residual-in_err-all.result c.from-residual-in_err-all.ensures.1 in
+    let w = c.in_ok-next.ensures in
     record {
       reads = by_suc _ _ (λ g h.
           let s = w.reads g h in
-          rw (p.1, p.2, ne_eqb c.args.at c.args.end c.if-at-end.false, s.is, ← s.count, c.in-err-all.ensures.reads g (omega (arith, w.within))) refl);
+          rw (p.1, p.2, ne_eqb c.args.at c.args.end c.if-at-end.false, s.is, ← s.count, c.in_err-all.ensures.reads g (omega (arith, w.within))) refl);
       few = rw p.1 tt;
     }
 
-pub read-block-returns : goal.read-block-returns
-read-block-returns t c =
-    let w = c.in-ok-next.ensures in
-    let v = c.in-ok-all.ensures in
+pub read_block-returns : goal.read_block-returns
+read_block-returns t c =
+    let w = c.in_ok-next.ensures in
+    let v = c.in_ok-all.ensures in
     record {
       reads = by_suc _ _ (λ g h.
           let s = w.reads g h in
@@ -51,49 +51,49 @@ read-block-returns t c =
       few = search rules;
     }
 
-pub read-branch-returns : goal.read-branch-returns
-read-branch-returns t c =
+pub read_branch-returns : goal.read_branch-returns
+read_branch-returns t c =
     record {
       reads = λ f h.
-          let one = c.in-ok-middle.ensures.reads f (omega (arith, c.in-ok-first.ensures.bound)) in
-          let two = c.in-ok-all.ensures.reads f (omega (arith, c.in-ok-first.ensures.bound, c.in-ok-second.ensures.bound)) in
+          let one = c.in_ok-middle.ensures.reads f (omega (arith, c.in_ok-first.ensures.bound)) in
+          let two = c.in_ok-all.ensures.reads f (omega (arith, c.in_ok-first.ensures.bound, c.in_ok-second.ensures.bound)) in
           record {
-            command = branch c.in-ok-register.register one.body two.body;
-            is = is_branch (sizes c.args.limits) (parse_b (sizes c.args.limits) f c.args.bytes.now (c.args.depth + 1)) c.args.bytes.now c.args.depth c.args.seen c.args.at c.args.end c.in-ok-register.register c.in-ok-first.first c.in-ok-second.second one.body c.in-ok-middle.middle two.body (sym c.in-ok-register.ensures.value) (sym c.in-ok-first.ensures.value) one.is one.count (sym c.in-ok-second.ensures.value) two.is;
+            command = branch c.in_ok-register.register one.body two.body;
+            is = is_branch (sizes c.args.limits) (parse_b (sizes c.args.limits) f c.args.bytes.now (c.args.depth + 1)) c.args.bytes.now c.args.depth c.args.seen c.args.at c.args.end c.in_ok-register.register c.in_ok-first.first c.in_ok-second.second one.body c.in_ok-middle.middle two.body (sym c.in_ok-register.ensures.value) (sym c.in_ok-first.ensures.value) one.is one.count (sym c.in_ok-second.ensures.value) two.is;
             laid = laid_branch _ _ _ _ _ _ _ _ one.body two.body one.laid one.count two.laid (omega (arith, one.count)) (omega (arith, one.count, two.count));
             count = omega (arith, one.count, two.count);
           };
       within = search rules;
     }
 
-pub read-declare-returns : goal.read-declare-returns
-read-declare-returns t c =
+pub read_declare-returns : goal.read_declare-returns
+read_declare-returns t c =
     record {
       reads = λ f h.
-          let one = c.in-ok-all.ensures.reads f (omega (arith, c.in-ok-span.ensures.bound)) in
+          let one = c.in_ok-all.ensures.reads f (omega (arith, c.in_ok-span.ensures.bound)) in
           record {
-            command = declare c.in-ok-register.register c.in-ok-value.value one.body;
-            is = is_declare (sizes c.args.limits) (parse_b (sizes c.args.limits) f c.args.bytes.now (c.args.depth + 1)) c.args.bytes.now c.args.depth c.args.seen c.args.at c.args.end c.in-ok-register.register c.in-ok-value.value c.in-ok-span.span one.body (sym c.in-ok-register.ensures.value) (sym c.in-ok-value.ensures.value) (sym c.in-ok-span.ensures.value) one.is;
+            command = declare c.in_ok-register.register c.in_ok-value.value one.body;
+            is = is_declare (sizes c.args.limits) (parse_b (sizes c.args.limits) f c.args.bytes.now (c.args.depth + 1)) c.args.bytes.now c.args.depth c.args.seen c.args.at c.args.end c.in_ok-register.register c.in_ok-value.value c.in_ok-span.span one.body (sym c.in_ok-register.ensures.value) (sym c.in_ok-value.ensures.value) (sym c.in_ok-span.ensures.value) one.is;
             laid = laid_declare _ _ _ _ _ _ one.body one.laid (omega (arith, one.count));
             count = omega (arith, one.count);
           };
       within = search rules;
     }
 
-pub read-statement-returns-in-11 : goal.read-statement-returns-in-11
-read-statement-returns-in-11 t c =
+pub read_statement-returns-in-11 : goal.read_statement-returns-in-11
+read_statement-returns-in-11 t c =
     record {
-      reads = λ f h. via_c c.read-branch.result c.args.out.now c.read-branch.new.out c.args.seen
+      reads = λ f h. via_c c.read_branch.result c.args.out.now c.read_branch.new.out c.args.seen
           (branch_at_lem (sizes c.args.limits) (parse_b (sizes c.args.limits) f c.args.bytes.now (c.args.depth + 1)) c.args.bytes.now c.args.depth c.args.seen c.args.at c.args.end c.if-seen-ge32.false c.in-11.is)
-          (c.read-branch.ensures.reads f h);
-      within = c.read-branch.ensures.within;
+          (c.read_branch.ensures.reads f h);
+      within = c.read_branch.ensures.within;
     }
 
-pub read-statement-returns-in-12 : goal.read-statement-returns-in-12
-read-statement-returns-in-12 t c =
+pub read_statement-returns-in-12 : goal.read_statement-returns-in-12
+read_statement-returns-in-12 t c =
     record {
-      reads = λ f h. via_c c.read-declare.result c.args.out.now c.read-declare.new.out c.args.seen
+      reads = λ f h. via_c c.read_declare.result c.args.out.now c.read_declare.new.out c.args.seen
           (declare_at_lem (sizes c.args.limits) (parse_b (sizes c.args.limits) f c.args.bytes.now (c.args.depth + 1)) c.args.bytes.now c.args.depth c.args.seen c.args.at c.args.end c.if-seen-ge32.false c.in-12.is)
-          (c.read-declare.ensures.reads f h);
-      within = c.read-declare.ensures.within;
+          (c.read_declare.ensures.reads f h);
+      within = c.read_declare.ensures.within;
     }

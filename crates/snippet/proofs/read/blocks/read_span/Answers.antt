@@ -6,28 +6,28 @@ use Rattle.snippet.specs.Program.{Block}
 use Rattle.snippet.specs.Keeps.{sizes, keeps_b}
 use Rattle.snippet.proofs.read.blocks.read_span.Goals as goal
 
-pub returns-in-err-len : goal.returns-in-err-len
-returns-in-err-len c =
+pub returns-in_err-len : goal.returns-in_err-len
+returns-in_err-len c =
     let p = err_from_is_err_and c.from-residual.result c.from-residual.ensures.1 in
-    let e = c.in-err-len.ensures.reads (suc (c.args.span.to - c.args.span.from)) (omega arith) in
+    let e = c.in_err-len.ensures.reads (suc (c.args.span.to - c.args.span.from)) (omega arith) in
     rw (p.1, p.2) record { gives = e; limits = tt }
 
 pub returns : goal.returns
 returns c =
-    let b = c.in-ok-len.ensures.reads (suc (c.args.span.to - c.args.span.from)) (omega arith) in
+    let b = c.in_ok-len.ensures.reads (suc (c.args.span.to - c.args.span.from)) (omega arith) in
     record {
-      gives = read_laid _ _ b.body _ b.is b.laid b.count (omega (arith, c.in-ok-len.ensures.few));
+      gives = read_laid _ _ b.body _ b.is b.laid b.count (omega (arith, c.in_ok-len.ensures.few));
       limits = refl;
     }
 
-pub invariant-of-result : goal.invariant-of-result
-invariant-of-result c =
+pub invariant_of-result : goal.invariant_of-result
+invariant_of-result c =
     let m = sizes c.args.limits in
     let at = c.args.span.from in
     let to = c.args.span.to in
-    let b = c.in-ok-len.ensures.reads (suc (to - at)) (omega arith) in
-    let few = c.in-ok-len.ensures.few in
-    let s = sound_b m c.args.bytes.now (λ k. (c.type-inv.bytes k).fits) (suc (to - at)) 0 0 at to b.body (omega arith) c.requires.place (omega arith) b.is in
+    let b = c.in_ok-len.ensures.reads (suc (to - at)) (omega arith) in
+    let few = c.in_ok-len.ensures.few in
+    let s = sound_b m c.args.bytes.now (λ k. (c.type_inv.bytes k).fits) (suc (to - at)) 0 0 at to b.body (omega arith) c.requires.place (omega arith) b.is in
     let same = block_laid _ _ b.body _ b.laid b.count (omega (arith, few)) in (
       search rules,
       (
