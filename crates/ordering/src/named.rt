@@ -2,7 +2,7 @@ ghost use Rattle.std.specs.Prelude.{◌≡◌};
 ghost use Rattle.ordering.specs.Table.{sc, ibm390, tso, pso, clr, tso_swaps, six_only};
 ghost use Rattle.std.proofs.Common.{rules};
 
-use crate::model::{Model, Removal};
+use crate::model::{Model as OrderingModel, Removal};
 use trace::{Access, Kind};
 
 fn store_then_load(first: Access, second: Access) -> bool
@@ -30,7 +30,7 @@ fn load_after_store_only(removal: Removal, location: u8) -> bool
 #[derive(Clone, Copy)]
 pub struct Sc;
 
-pub impl Model for Sc as ScModel {
+impl OrderingModel for Sc {
     const NUMBER: u8 = 1;
 
     ghost number = { 1 };
@@ -66,7 +66,7 @@ pub impl Model for Sc as ScModel {
 #[derive(Clone, Copy)]
 pub struct Ibm390;
 
-pub impl Model for Ibm390 as Ibm390Model {
+impl OrderingModel for Ibm390 {
     const NUMBER: u8 = 2;
 
     ghost number = { 2 };
@@ -102,7 +102,7 @@ pub impl Model for Ibm390 as Ibm390Model {
 #[derive(Clone, Copy)]
 pub struct Tso;
 
-pub impl Model for Tso as TsoModel {
+impl OrderingModel for Tso {
     const NUMBER: u8 = 3;
 
     ghost number = { 3 };
@@ -138,7 +138,7 @@ pub impl Model for Tso as TsoModel {
 #[derive(Clone, Copy)]
 pub struct Pso;
 
-pub impl Model for Pso as PsoModel {
+impl OrderingModel for Pso {
     const NUMBER: u8 = 4;
 
     ghost number = { 4 };
@@ -180,7 +180,7 @@ pub impl Model for Pso as PsoModel {
 #[derive(Clone, Copy)]
 pub struct Clr;
 
-pub impl Model for Clr as ClrModel {
+impl OrderingModel for Clr {
     const NUMBER: u8 = 5;
 
     ghost number = { 5 };

@@ -1,7 +1,7 @@
 ghost use Rattle.ordering.specs.Pinning.{pinning};
 ghost use Rattle.ordering.specs.PinnedLaws.{pinned_within, pinned_together, pinned_five, pinned_six};
 
-use crate::model::{Model, Removal};
+use crate::model::{Model as OrderingModel, Removal};
 use crate::pins::Pins;
 use trace::Access;
 
@@ -13,20 +13,20 @@ pub struct Pinned<M> {
     pub pins: Pins,
 }
 
-pub impl<M: Model> Model for Pinned<M> as PinnedModel {
+impl<M: OrderingModel> OrderingModel for Pinned<M> {
     const NUMBER: u8 = M::NUMBER;
 
-    ghost number = { M.Model.number };
+    ghost number = { M.number };
 
-    ghost meaning = { λ m. pinning m.pins.mask (M.Model.meaning m.under) };
+    ghost meaning = { λ m. pinning m.pins.mask (M.meaning m.under) };
 
-    ghost within = { λ m. pinned_within m.pins.mask (M.Model.meaning m.under) (M.Model.within m.under) };
+    ghost within = { λ m. pinned_within m.pins.mask (M.meaning m.under) (M.within m.under) };
 
-    ghost together = { λ m. pinned_together m.pins.mask (M.Model.meaning m.under) (M.Model.together m.under) };
+    ghost together = { λ m. pinned_together m.pins.mask (M.meaning m.under) (M.together m.under) };
 
-    ghost five = { λ m. pinned_five m.pins.mask (M.Model.meaning m.under) (M.Model.five m.under) };
+    ghost five = { λ m. pinned_five m.pins.mask (M.meaning m.under) (M.five m.under) };
 
-    ghost six = { λ m. pinned_six m.pins.mask (M.Model.meaning m.under) (M.Model.six m.under) };
+    ghost six = { λ m. pinned_six m.pins.mask (M.meaning m.under) (M.six m.under) };
 
     fn model_number(&self) -> u8 {
         self.under.model_number()

@@ -6,13 +6,13 @@ use Rattle.judging.proofs.decide.decide.Goals.{then-wanted-via-then-wanted, then
 
 pub returns-in_err-wanted : goal.returns-in_err-wanted
 returns-in_err-wanted g c =
-    let p = err_from_is_err_and c.from-residual.result c.from-residual.ensures.1 in
+    let p = err_from_is_err_and c.from_residual.result c.from_residual.ensures.1 in
     let e = c.in_err-wanted.ensures in
     rw (p.1, p.2, e.1) (no_replacement (g.M.Model.meaning c.args.model.now) c.args.pair.now c.args.hand_in.now e.0)
 
 pub returns-in_err-given : goal.returns-in_err-given
 returns-in_err-given g c =
-    let p = err_from_is_err_and c.from-residual-in_err-given.result c.from-residual-in_err-given.ensures.1 in
+    let p = err_from_is_err_and c.from_residual-in_err-given.result c.from_residual-in_err-given.ensures.1 in
     let e = c.in_err-given.ensures in
     rw (p.1, p.2, e.1) (no_original (g.M.Model.meaning c.args.model.now) c.args.pair.now c.args.hand_in.now e.0)
 

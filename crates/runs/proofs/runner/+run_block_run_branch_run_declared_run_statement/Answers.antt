@@ -22,7 +22,7 @@ run_block-returns-then-at-to t c =
 pub run_block-returns-in_err-run_statement : goal.run_block-returns-in_err-run_statement
 run_block-returns-in_err-run_statement t c =
     let ns = c.args.body.now.statements in
-    let p = err_from_is_err_and c.from-residual.result c.from-residual.ensures.1 in
+    let p = err_from_is_err_and c.from_residual.result c.from_residual.ensures.1 in
     let e = c.in_err-run_statement.ensures in
     let both = stopped (block_then ns c.args.at c.args.to c.if-at-to.false) _ _ _ _ _ _ e.events e.ends in
     record { events = both.0; ends = rw p.1 both.1 }

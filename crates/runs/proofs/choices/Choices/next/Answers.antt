@@ -6,7 +6,7 @@ use Rattle.runs.proofs.choices.Choices.next.Goals as goal
 pub invariant_of-self : goal.invariant_of-self
 invariant_of-self c =
     let s = c.args.self.now in
-    (s.two, (div_below s.base s.left s.rest (omega (arith, s.two)) (omega arith) s.few, tt))
+    record { two = s.two; few = div_below s.base s.left s.rest (omega (arith, s.two)) (omega arith) s.few }
 
 pub returns : goal.returns
 returns c =

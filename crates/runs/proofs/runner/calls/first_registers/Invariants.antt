@@ -4,5 +4,5 @@ use Rattle.runs.proofs.runner.calls.first_registers.Given as goal
 
 abbrev pub invariant-loop-register : goal.invariant-loop-register
 invariant-loop-register l =
-    (held l.registers ≡ take l.-register (remaining l.initial.choices))
-    × (remaining l.choices ≡ drop l.-register (remaining l.initial.choices))
+    (held l.registers ≡ take l._register (remaining l.initial.choices))
+    × (remaining l.choices ≡ drop l._register (remaining l.initial.choices))

@@ -16,7 +16,7 @@ read_block-returns-then-at-end t c =
 
 pub read_block-returns-in_err-next : goal.read_block-returns-in_err-next
 read_block-returns-in_err-next t c =
-    let p = err_from_is_err_and c.from-residual.result c.from-residual.ensures.1 in
+    let p = err_from_is_err_and c.from_residual.result c.from_residual.ensures.1 in
     record {
       reads = by_suc _ _ (λ g h.
           rw (p.1, p.2, ne_eqb c.args.at c.args.end c.if-at-end.false, c.in_err-next.ensures.reads g h) refl);
@@ -25,7 +25,7 @@ read_block-returns-in_err-next t c =
 
 pub read_block-returns-in_err-all : goal.read_block-returns-in_err-all
 read_block-returns-in_err-all t c =
-    let p = err_from_is_err_and c.from-residual-in_err-all.result c.from-residual-in_err-all.ensures.1 in
+    let p = err_from_is_err_and c.from_residual-in_err-all.result c.from_residual-in_err-all.ensures.1 in
     let w = c.in_ok-next.ensures in
     record {
       reads = by_suc _ _ (λ g h.

@@ -8,7 +8,7 @@ use Rattle.snippet.proofs.read.blocks.read_span.Goals as goal
 
 pub returns-in_err-len : goal.returns-in_err-len
 returns-in_err-len c =
-    let p = err_from_is_err_and c.from-residual.result c.from-residual.ensures.1 in
+    let p = err_from_is_err_and c.from_residual.result c.from_residual.ensures.1 in
     let e = c.in_err-len.ensures.reads (suc (c.args.span.to - c.args.span.from)) (omega arith) in
     rw (p.1, p.2) record { gives = e; limits = tt }
 
@@ -28,13 +28,10 @@ invariant_of-result c =
     let b = c.in_ok-len.ensures.reads (suc (to - at)) (omega arith) in
     let few = c.in_ok-len.ensures.few in
     let s = sound_b m c.args.bytes.now (λ k. (c.type_inv.bytes k).fits) (suc (to - at)) 0 0 at to b.body (omega arith) c.requires.place (omega arith) b.is in
-    let same = block_laid _ _ b.body _ b.laid b.count (omega (arith, few)) in (
-      search rules,
-      (
-        search rules,
-        (
-          front_laid _ _ b.body _ b.laid b.count (omega (arith, few)),
-          (ap (λ (t : Block). keeps_b m 0 t) same ∙ s.proper, tt),
-        ),
-      ),
-    )
+    let same = block_laid _ _ b.body _ b.laid b.count (omega (arith, few)) in
+    record {
+      full = search rules;
+      few = search rules;
+      laid = front_laid _ _ b.body _ b.laid b.count (omega (arith, few));
+      kept = ap (λ (t : Block). keeps_b m 0 t) same ∙ s.proper;
+    }
