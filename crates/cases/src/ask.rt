@@ -13,9 +13,9 @@ impl<M: Model> Case<M> {
     /// replacement is sound.
     pub fn verdict(&self) -> Option<u16>
         ensures marks { Verdict self.now result }
-        ensures promise { (h : List Made) → Follows M.Model.meaning self.now h → VerdictPromise (Unobservable (M.Model.meaning self.now.model) (meant self.now.pair)) (M.Model.meaning self.now.model) (meant self.now.pair) h result }
-        ensures follows { (h : List Made) → Follows M.Model.meaning self.now h → Follows M.Model.meaning self.now (h ++ asked ∷ []) }
-        ensures stands { (h : List Made) → Follows M.Model.meaning self.now h → Stands M.Model.meaning self.now (h ++ asked ∷ []) }
+        ensures promise { (h : List Made) → Follows M.meaning self.now h → VerdictPromise (Unobservable (M.meaning self.now.model) (meant self.now.pair)) (M.meaning self.now.model) (meant self.now.pair) h result }
+        ensures follows { (h : List Made) → Follows M.meaning self.now h → Follows M.meaning self.now (h ++ asked ∷ []) }
+        ensures stands { (h : List Made) → Follows M.meaning self.now h → Stands M.meaning self.now (h ++ asked ∷ []) }
     {
         self.active.first_missing(&self.matched)
     }
@@ -23,9 +23,9 @@ impl<M: Model> Case<M> {
     /// How many different runs are matched, and how many runs of the replacement are not idle.
     pub fn count(&self) -> Tally
         ensures marks { Counted self.now result.matched result.active }
-        ensures promise { (h : List Made) → Follows M.Model.meaning self.now h → CountPromise (M.Model.meaning self.now.model) (meant self.now.pair) h result.matched result.active }
-        ensures follows { (h : List Made) → Follows M.Model.meaning self.now h → Follows M.Model.meaning self.now (h ++ counted ∷ []) }
-        ensures stands { (h : List Made) → Follows M.Model.meaning self.now h → Stands M.Model.meaning self.now (h ++ counted ∷ []) }
+        ensures promise { (h : List Made) → Follows M.meaning self.now h → CountPromise (M.meaning self.now.model) (meant self.now.pair) h result.matched result.active }
+        ensures follows { (h : List Made) → Follows M.meaning self.now h → Follows M.meaning self.now (h ++ counted ∷ []) }
+        ensures stands { (h : List Made) → Follows M.meaning self.now h → Stands M.meaning self.now (h ++ counted ∷ []) }
     {
         Tally {
             matched: self.matched.count(),

@@ -17,8 +17,8 @@ impl<M: Model> Case<M> {
     pub fn open(pair: Pair, model: M) -> Case<M>
         ensures pair { result.pair ≡ pair }
         ensures model { result.model ≡ model }
-        ensures follows { Follows M.Model.meaning result [] }
-        ensures promise { Stands M.Model.meaning result [] }
+        ensures follows { Follows M.meaning result [] }
+        ensures promise { Stands M.meaning result [] }
     {
         let active = active_runs(&pair.replacement);
         Case {
@@ -34,10 +34,10 @@ impl<M: Model> Case<M> {
     pub fn hand_in(&mut self, bytes: &[u8]) -> Result<(), Refusal>
         ensures pair { self.new.pair ≡ self.old.pair }
         ensures model { self.new.model ≡ self.old.model }
-        ensures answer { HandInAnswer (M.Model.meaning self.old.model) (meant self.old.pair) bytes.now result }
+        ensures answer { HandInAnswer (M.meaning self.old.model) (meant self.old.pair) bytes.now result }
         ensures declined { Unchanged result self.old self.new }
-        ensures follows { (h : List Made) → Follows M.Model.meaning self.old h → Follows M.Model.meaning self.new (h ++ hand_in bytes.now ∷ []) }
-        ensures promise { (h : List Made) → Follows M.Model.meaning self.old h → Stands M.Model.meaning self.new (h ++ hand_in bytes.now ∷ []) }
+        ensures follows { (h : List Made) → Follows M.meaning self.old h → Follows M.meaning self.new (h ++ hand_in bytes.now ∷ []) }
+        ensures promise { (h : List Made) → Follows M.meaning self.old h → Stands M.meaning self.new (h ++ hand_in bytes.now ∷ []) }
     {
         match judge(&self.pair, &self.model, bytes) {
             Ok(run) => {

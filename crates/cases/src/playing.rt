@@ -26,7 +26,7 @@ fn standing<M: Model>(case: &Case<M>) -> Standing
 fn make<M: Model>(case: &mut Case<M>, call: Call<'_>)
     ensures pair { case.new.pair ≡ case.old.pair }
     ensures model { case.new.model ≡ case.old.model }
-    ensures follows { (h : List Made) → Follows M.Model.meaning case.old h → Follows M.Model.meaning case.new (h ++ call_of call.entry ∷ []) }
+    ensures follows { (h : List Made) → Follows M.meaning case.old h → Follows M.meaning case.new (h ++ call_of call.entry ∷ []) }
 {
     match call {
         Call::HandIn(bytes) => {
@@ -59,7 +59,7 @@ pub fn play<M: Model + Drop, S: Sets>(
     calls: &[Call<'_>],
     standings: &mut [Standing],
 ) -> Standing
-    ensures { Played S.Sets.sets S.Sets.words (M.Model.meaning model) (meant pair) (map call_of calls.now) standings.old standings.new result }
+    ensures { Played S.Sets.sets S.Sets.words (M.meaning model) (meant pair) (map call_of calls.now) standings.old standings.new result }
 {
     let mut case = Case::open(pair, model);
     for i in 0..calls.len() {

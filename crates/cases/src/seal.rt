@@ -12,10 +12,10 @@ use ordering::Model;
 impl<M: Model + Drop> Case<M> {
     /// Ends the case. A sealed case takes no hand-in, and only a sealed case gives a report.
     pub fn seal(self) -> Sealed
-        ensures model { result.model ≡ M.Model.number }
+        ensures model { result.model ≡ M.number }
         ensures count { Counted self result.matched result.active }
         ensures verdict { Verdict self result.lowest }
-        ensures promise { (h : List Made) → Follows M.Model.meaning self h → VerdictPromise (Unobservable (M.Model.meaning self.model) (meant self.pair)) (M.Model.meaning self.model) (meant self.pair) h result.lowest × CountPromise (M.Model.meaning self.model) (meant self.pair) h result.matched result.active }
+        ensures promise { (h : List Made) → Follows M.meaning self h → VerdictPromise (Unobservable (M.meaning self.model) (meant self.pair)) (M.meaning self.model) (meant self.pair) h result.lowest × CountPromise (M.meaning self.model) (meant self.pair) h result.matched result.active }
     {
         let tally = self.count();
         Sealed {

@@ -54,7 +54,7 @@ fn settle<M: Model>(
 ) -> Result<(), Refusal>
     requires given { given.now.length ≤ 48 }
     requires wanted { wanted.now.length ≤ 48 }
-    ensures { Settled (meaning model.now) v l steps.now (take given.now.length given.now.events) (take wanted.now.length wanted.now.events) (held given.now.end) (held wanted.now.end) result }
+    ensures { Settled (M.meaning model.now) v l steps.now (take given.now.length given.now.events) (take wanted.now.length wanted.now.events) (held given.now.end) (held wanted.now.end) result }
 {
     let mut word = Working::of(&given.events[0..given.length]);
     match word.replay(model, steps, v, l) {
@@ -77,7 +77,7 @@ fn settle<M: Model>(
 
 // Judges a hand-in that was read: both runs are looked at for each cause before the next cause.
 fn decide<M: Model>(pair: &Pair, model: &M, hand_in: &HandIn) -> Result<(), Refusal>
-    ensures { Decided (meaning model.now) (meant pair.now) (derivation hand_in.now) result }
+    ensures { Decided (M.meaning model.now) (meant pair.now) (derivation hand_in.now) result }
 {
     let wanted = perform(&pair.replacement, hand_in.replacement)?;
     let given = perform(&pair.original, hand_in.original)?;
@@ -105,7 +105,7 @@ fn decide<M: Model>(pair: &Pair, model: &M, hand_in: &HandIn) -> Result<(), Refu
 }
 
 fn judge_bytes<M: Model>(pair: &Pair, model: &M, bytes: &[u8]) -> Result<u16, Refusal>
-    ensures { Judged (meaning model.now) (meant pair.now) bytes.now result }
+    ensures { Judged (M.meaning model.now) (meant pair.now) bytes.now result }
 {
     let hand_in = read_hand_in(bytes)?;
     decide(pair, model, &hand_in)?;
@@ -115,9 +115,9 @@ fn judge_bytes<M: Model>(pair: &Pair, model: &M, bytes: &[u8]) -> Result<u16, Re
 /// Judges a hand-in's bytes: the run of the replacement that it shows to follow, or the first cause
 /// against it.
 pub fn judge<M: Model>(pair: &Pair, model: &M, bytes: &[u8]) -> Result<u16, Refusal>
-    ensures judged { Judged (meaning model.now) (meant pair.now) bytes.now result }
-    ensures exactly { Exactly (meaning model.now) (meant pair.now) bytes.now result }
-    ensures one { OneAnswer (meaning model.now) (meant pair.now) bytes.now }
+    ensures judged { Judged (M.meaning model.now) (meant pair.now) bytes.now result }
+    ensures exactly { Exactly (M.meaning model.now) (meant pair.now) bytes.now result }
+    ensures one { OneAnswer (M.meaning model.now) (meant pair.now) bytes.now }
 {
     judge_bytes(pair, model, bytes)
 }

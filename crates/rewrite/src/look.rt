@@ -114,7 +114,7 @@ fn fits(rule: Rule, e: Event, f: Event) -> Option<Question>
 
 // The model's answer.
 fn ask<M: Model>(model: &M, question: Question) -> bool
-    ensures { result ≡ answer (meaning model.now) question }
+    ensures { result ≡ answer (M.meaning model.now) question }
 {
     match question {
         Question::MaySwap(first, second) => model.may_swap(first, second),

@@ -74,11 +74,11 @@ fn hand_in_all<M: Model>(
     mut parts: Parts<'_>,
     out: &mut Vec<u8>,
 ) -> Result<(), AllocError>
-    requires follows { Follows M.Model.meaning case.old [] }
-    requires stands { Stands M.Model.meaning case.old [] }
+    requires follows { Follows M.meaning case.old [] }
+    requires stands { Stands M.meaning case.old [] }
     requires parts { HandIns (left parts) }
     requires empty { out.old.items ≡ [] }
-    ensures { OnOk result (Handed M.Model.meaning case.old case.new (map bytes_of (left parts.entry)) out.new.items) }
+    ensures { OnOk result (Handed M.meaning case.old case.new (map bytes_of (left parts.entry)) out.new.items) }
 {
     while let Some(Part::HandIn { bytes, .. }) = parts.next() {
         print(answer(case.hand_in(bytes)), out)?;
@@ -94,7 +94,7 @@ fn judge_with<M: Model + Drop>(
     parts: Parts<'_>,
 ) -> Result<Vec<u8>, AllocError>
     requires { HandIns (left parts) }
-    ensures { IfOk result (λ v. Lines M.Model.number (M.Model.meaning model) (meant pair) (map bytes_of (left parts.entry)) v.items) }
+    ensures { IfOk result (λ v. Lines M.number (M.meaning model) (meant pair) (map bytes_of (left parts.entry)) v.items) }
 {
     let mut case = Case::open(pair, model);
     let mut out = Vec::new(heap);

@@ -18,5 +18,5 @@ pub trait Sets {
 
 // Behaviours that are reached by steps add no observation, in any surrounding, on any model.
 fn steps_are_sound<M: Model, S: Sets>(model: &M)
-    ensures { SoundEverywhere (meaning model.now) sets words }
+    ensures { SoundEverywhere (M.meaning model.now) S.sets S.words }
 {}

@@ -68,7 +68,7 @@ impl Working {
     ) -> Result<(), Denied>
         requires number { rule_of step.rule ≡ Some rule }
         requires pairs { rule ≢ NewLoad }
-        ensures { Applied (meaning model.now) v l step (word self.old) result (word self.new) }
+        ensures { Applied (M.meaning model.now) v l step (word self.old) result (word self.new) }
     {
         let p = step.place as usize;
         if step.location != 0 || step.value != 0 || p + 1 >= self.len {
@@ -114,7 +114,7 @@ impl Working {
 
     // Takes one step, or says why not and leaves the word.
     fn apply<M: Model>(&mut self, model: &M, step: Step, v: u8, l: u8) -> Result<(), Denied>
-        ensures { Applied (meaning model.now) v l step (word self.old) result (word self.new) }
+        ensures { Applied (M.meaning model.now) v l step (word self.old) result (word self.new) }
     {
         match rule_of(step.rule) {
             None => Err(Denied::Misfit),
@@ -136,9 +136,9 @@ impl Working {
         v: u8,
         l: u8,
     ) -> Result<(), Stopped>
-        ensures replayed { Replayed (meaning model.now) v l steps.now (word self.old) result (word self.new) }
+        ensures replayed { Replayed (M.meaning model.now) v l steps.now (word self.old) result (word self.new) }
         ensures sure { StepsAreSure }
-        ensures reach { ChainsReach (meaning model.now) }
+        ensures reach { ChainsReach (M.meaning model.now) }
     {
         for i in 0..steps.len() {
             match self.apply(model, steps[i], v, l) {
