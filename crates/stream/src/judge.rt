@@ -12,9 +12,7 @@ use crate::named::Named;
 use crate::print::print;
 use cases::Case;
 use lines::Line;
-use ordering::{
-    Clr, ClrModel, Ibm390, Ibm390Model, Model, Pso, PsoModel, Sc, ScModel, Tso, TsoModel,
-};
+use ordering::{Clr, Ibm390, Model, Pso, Sc, Tso};
 use pairs::{Pair, read_pair};
 use parts::{Part, Parts};
 use std::alloc::{AllocError, Global};

@@ -11,10 +11,7 @@ ghost use Rattle.worked.specs.Pairs.{store_back, store_later, store_sooner, load
 
 use cases::{Call, Standing, play};
 use judging::judge;
-use ordering::{
-    Clr, ClrModel, Ibm390, Ibm390Model, Model, Pinned, PinnedModel, Pins, Pso, PsoModel, Sc,
-    ScModel, Tso, TsoModel,
-};
+use ordering::{Clr, Ibm390, Model, Pinned, Pins, Pso, Sc, Tso};
 use pairs::read_pair;
 use runs::{Registers, run};
 use snippet::Snippet;

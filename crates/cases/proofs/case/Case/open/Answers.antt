@@ -9,7 +9,8 @@ use Rattle.cases.proofs.Cases.{following, standing}
 use Rattle.cases.proofs.case.Case.open.Goals as goal
 
 pub invariant_of-result : goal.invariant_of-result
-invariant_of-result g c = λ k. c.active_runs-active.ensures k ∙ ap (λ (z : Sizes). is_active z (program_of c.args.pair.replacement) k) (same_sizes c.args.pair)
+invariant_of-result g c =
+    record { live = λ k. c.active_runs-active.ensures k ∙ ap (λ (z : Sizes). is_active z (program_of c.args.pair.replacement) k) (same_sizes c.args.pair) }
 
 pub returns : goal.returns
 returns g c =
