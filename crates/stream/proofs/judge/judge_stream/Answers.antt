@@ -4,7 +4,7 @@ use Rattle.stream.specs.Printed.{most_bytes, Printed, no_stream, fit, long}
 use Rattle.stream.proofs.Opening.{is_model, no_first, no_model, fit_made}
 use Rattle.stream.proofs.Single.{printed_once}
 use Rattle.stream.proofs.judge.judge_stream.Goals as goal
-use Rattle.stream.proofs.judge.judge_stream.Goals.{in_default-via-in-Some·+in-Pair·, in_default-via-in-None·}
+use Rattle.stream.proofs.judge.judge_stream.Goals.{in_default-via-in-Some+in_default, in_default-via-in_default}
 
 pub returns-then-stream-gt-LONGEST : goal.returns-then-stream-gt-LONGEST
 returns-then-stream-gt-LONGEST c = record {
@@ -15,7 +15,7 @@ returns-then-stream-gt-LONGEST c = record {
 pub returns-in_default : goal.returns-in_default
 returns-in_default c =
     let n = c.new-parts.ensures in
-    let other : is_model c.next.result ≡ false = elim c.in_default.branch [ in_default-via-in-Some·+in-Pair· w ↦ search rules | in_default-via-in-None· w ↦ search rules ] in
+    let other : is_model c.next.result ≡ false = elim c.in_default.branch [ in_default-via-in-Some+in_default w ↦ search rules | in_default-via-in_default w ↦ search rules ] in
     let no = no_first c.args.stream.now n.rejoins c.new-parts.result c.next.new.self c.next.result n.parts c.next.ensures.takes other in
     record {
       printed = IfOk-weaker c.decline_stream-in_default.result _ _ (λ v q. subst (Printed _) (sym q) (no_stream no)) c.decline_stream-in_default.ensures;
