@@ -1,5 +1,5 @@
 -- What a snippet can do, by its statements alone.
-use Rattle.std.specs.Prelude.{◌≡◌, ℕ, ◌+◌, ◌%◌, ◌<◌, cond, [], ◌∷◌, ◌++◌, length, set, ◌==◌, ◌≢◌, slice_index, slice_set}
+use Rattle.std.specs.Prelude.{◌≡◌, ℕ, ◌+◌, ◌%◌, ◌<◌, cond, [], ◌∷◌, ◌++◌, length, ◌==◌, ◌≢◌, slice_index, slice_set}
 use Rattle.trace.specs.Words.{Word, Registers, Behaviour}
 use Rattle.trace.specs.Limits.{SmallValues}
 use Rattle.trace.specs.declared.event.Event.TheVariants.{Load, Store, LoadStore, Fence, Get, Print}

@@ -3,7 +3,7 @@ use Rattle.std.proofs.Common.{◌≡◌, ℕ, ◌+◌, ◌-◌, ◌*◌, ◌/◌
 use Rattle.std.proofs.lemmas.Bool.{eqb-true}
 use Rattle.snippet.proofs.Holds.{Holds}
 use Rattle.snippet.specs.Encode.{Bytes, sized}
-use Rattle.snippet.specs.Parse.{declined, and_then, operand_at, span_at, inner_at, one, two}
+use Rattle.snippet.specs.Parse.{declined, and_then, operand_at, span_at, inner_at}
 use Rattle.trace.specs.declared.refusal.Refusal.{Refusal}
 use Rattle.snippet.specs.declared.span.Span.{Span}
 use Rattle.trace.specs.declared.refusal.Cause.{Cause}

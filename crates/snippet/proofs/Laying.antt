@@ -1,5 +1,5 @@
 -- How the statements of a command or a block are laid into an array, and what is read of them.
-use Rattle.std.proofs.Common.{◌≡◌, ℕ, zero, suc, ◌+◌, ◌-◌, ◌<◌, ◌≤◌, ◌≢◌, List, [], ◌∷◌, ◌++◌, length, get_or, set, Ok, Result, sym, refl, ap, ◌∙◌, add-one, arith, length-append, lt-ltb}
+use Rattle.std.proofs.Common.{◌≡◌, ℕ, zero, suc, ◌+◌, ◌<◌, ◌≤◌, ◌≢◌, List, [], ◌∷◌, ◌++◌, length, get_or, set, Ok, Result, sym, refl, ap, ◌∙◌, add-one, arith, length-append, lt-ltb}
 use Rattle.snippet.specs.Program.{Block, Command, end, then, skip, load, store, constant, copy, sum, equal, compare_and_swap, fence, get, print, branch, declare, size_b, size_c}
 use Rattle.snippet.specs.Layout.{flat_b, flat_c}
 use Rattle.snippet.specs.Keeps.{Sizes}

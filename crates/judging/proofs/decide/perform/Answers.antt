@@ -1,4 +1,4 @@
-use Rattle.std.proofs.Common.{length, take, ap, ◌∙◌, inl, inr, arith}
+use Rattle.std.proofs.Common.{take, ap, ◌∙◌, inl, inr, arith}
 use Rattle.std.proofs.lemmas.List.{take_at}
 use Rattle.snippet.specs.Meant.{sizes_of, program_of}
 use Rattle.runs.specs.Runs.{word_of}

@@ -1,5 +1,4 @@
 use Rattle.std.proofs.Common.{◌≡◌, ℕ, ◌+◌, List, [], ◌∷◌, ◌++◌, length, decimal, sym, ap, ◌∙◌, arith}
-use lib.Seq.{sets}
 use Rattle.std.proofs.lemmas.List.{length-append, length_push}
 use Rattle.trace.proofs.Lists.{sets-append}
 use Rattle.lines.specs.Lines.{written}

@@ -1,8 +1,8 @@
-use Rattle.std.proofs.Common.{◌+◌, ◌-◌, sym, refl, arith, rules, eq-eqb, ne_eqb}
+use Rattle.std.proofs.Common.{◌+◌, sym, refl, arith, rules, eq-eqb, ne_eqb}
 use Rattle.snippet.proofs.Laying.{by_suc, laid_then, laid_branch, laid_declare, is_branch, is_declare, branch_at_lem, declare_at_lem, via_c}
 use Rattle.snippet.specs.Program.{end, then, branch, declare}
 use Rattle.snippet.specs.Keeps.{sizes}
-use Rattle.snippet.specs.Parse.{one, two, parse_b}
+use Rattle.snippet.specs.Parse.{parse_b}
 use Rattle.std.proofs.lemmas.Result.{err_from_is_err_and}
 use Rattle.snippet.proofs.read.blocks.+read_block_read_branch_read_declare_read_statement.Goals as goal
 
