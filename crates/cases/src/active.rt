@@ -1,11 +1,11 @@
-ghost use Rattle.std.specs.Prelude.{◌≡◌, ℕ, ◌<◌};
+ghost use Rattle.std.specs.Prelude.{◌≡◌, ℕ, ◌<◌, nat_lt};
 ghost use Rattle.snippet.specs.Meant.{sizes_of, program_of};
 ghost use Rattle.runs.specs.Runs.{idle};
 ghost use Rattle.marks.specs.Marks.{marked};
 ghost use Rattle.cases.specs.Active.{is_active};
 
 use marks::Marks;
-use runs::{Registers, run};
+use runs::{Registers, never_idle, run};
 use snippet::Snippet;
 use trace::Event;
 
@@ -14,7 +14,7 @@ fn is_idle(snippet: &Snippet, number: u16) -> bool
     requires { number < snippet.now.runs }
     ensures { result ≡ idle (sizes_of snippet.now) (program_of snippet.now) number }
 {
-    let mut events = [Event::Fence; 32];
+    let mut events = [Event::BLANK; 32];
     let mut registers = Registers::new();
     match run(snippet, number, &mut events, &mut registers) {
         Ok(ran) => ran.idle,
@@ -22,10 +22,24 @@ fn is_idle(snippet: &Snippet, number: u16) -> bool
     }
 }
 
-// The runs that are not idle.
+// All runs.
+fn all_runs(snippet: &Snippet) -> Marks
+    ensures { (k : ℕ) → marked result k ≡ nat_lt k snippet.now.runs }
+{
+    let mut all = Marks::none();
+    for k in 0..snippet.runs {
+        all.add(k);
+    }
+    all
+}
+
+// The runs that are not idle. They are all runs if none can be idle, and then none is carried out.
 pub(crate) fn active_runs(snippet: &Snippet) -> Marks
     ensures { (k : ℕ) → marked result k ≡ is_active (sizes_of snippet.now) (program_of snippet.now) k }
 {
+    if never_idle(snippet) {
+        return all_runs(snippet);
+    }
     let mut active = Marks::none();
     for k in 0..snippet.runs {
         if !is_idle(snippet, k) {

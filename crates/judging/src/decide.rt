@@ -21,7 +21,7 @@ fn perform(snippet: &Snippet, number: u16) -> Result<Performed, Refusal>
     ensures { PerformAnswer (sizes_of snippet.now) (program_of snippet.now) number result }
 {
     let start = start_registers(snippet, number)?;
-    let mut events = [Event::Fence; 48];
+    let mut events = [Event::BLANK; 48];
     let mut end = Registers::new();
     let ran = run(snippet, number, &mut events, &mut end)?;
     Ok(Performed {

@@ -254,7 +254,7 @@ module _ (m : Sizes) (b : Block) (two : 2 ≤ m.values) where
   abbrev padded : Word → List ℕ
   padded w = chosen w ++ replicate (choices_b b - length (chosen w)) 0
 
-  choices-length : (k : ℕ) → length (choices_of m b k) ≡ choices_b b
+  pub choices-length : (k : ℕ) → length (choices_of m b k) ≡ choices_b b
   unfolding choices_of
   choices-length k = digits-length m.values (choices_b b) (k / m.values ^ m.registers)
 

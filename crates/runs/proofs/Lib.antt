@@ -2,3 +2,4 @@ pub mod Digits
 pub mod Exact
 pub mod Laid
 pub mod Bounds
+pub mod Idle

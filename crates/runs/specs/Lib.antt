@@ -4,3 +4,4 @@ pub mod Exact
 pub mod Held
 pub mod Answers
 pub mod Walk
+pub mod Sure

@@ -10,4 +10,4 @@ mod runner;
 
 pub use ran::Ran;
 pub use registers::Registers;
-pub use runner::{run, start_registers};
+pub use runner::{never_idle, run, start_registers};

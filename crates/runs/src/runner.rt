@@ -14,8 +14,10 @@ use trace::Event;
 
 // The calls stand below, so that the walk that they use stays private.
 mod calls;
+mod sure;
 
 pub use calls::{run, start_registers};
+pub use sure::never_idle;
 
 impl Choices {
     // Takes the next choice: 0 where none is left.

@@ -28,6 +28,14 @@ pub struct Access {
 }
 
 impl Event {
+    /// What places of an array hold before an event is written there. It is the longest event, so
+    /// that such an array is filled by whole words.
+    pub const BLANK: Event = Event::LoadStore {
+        location: 0,
+        found: 0,
+        left: 0,
+    };
+
     /// The access that the event is, if it is a load or a store.
     pub fn access(self) -> Option<Access>
         ensures { result ≡ access_of self }

@@ -145,7 +145,7 @@ fn show_pinned(rt: &HostRuntime, title: &str, file: &[u8], hand_in: &[u8]) -> io
 
 // A line that says whether a run is idle, or why there is none.
 fn show_run(rt: &HostRuntime, snippet: &Snippet, number: u16) -> io::Result<()> {
-    let mut events = [Event::Fence; 48];
+    let mut events = [Event::BLANK; 48];
     let mut registers = Registers::new();
     match run(snippet, number, &mut events, &mut registers) {
         Ok(ran) => {

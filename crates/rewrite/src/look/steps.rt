@@ -15,7 +15,7 @@ impl Working {
         ensures { word result ≡ take 48 events.now }
     {
         let mut made = Working {
-            events: [Event::Fence; 48],
+            events: [Event::BLANK; 48],
             len: 0,
         };
         if events.len() <= 48 {
