@@ -2,7 +2,7 @@ ghost use Rattle.std.specs.Prelude.{◌≡◌};
 ghost use Rattle.trace.specs.Words.{access_of};
 
 /// What a run does at one place of its word.
-#[derive(Clone, Copy, PartialEq, Eq)]
+#[derive(Clone, Copy, Debug, PartialEq, Eq)]
 pub enum Event {
     Load { location: u8, value: u8 },
     Store { location: u8, value: u8 },
@@ -14,14 +14,14 @@ pub enum Event {
 }
 
 /// Which way an access goes.
-#[derive(Clone, Copy)]
+#[derive(Clone, Copy, Debug, PartialEq, Eq)]
 pub enum Kind {
     Load,
     Store,
 }
 
 /// A load or a store as an ordering model sees it: without its value.
-#[derive(Clone, Copy)]
+#[derive(Clone, Copy, Debug, PartialEq, Eq)]
 pub struct Access {
     pub kind: Kind,
     pub location: u8,
@@ -41,11 +41,11 @@ impl Event {
         ensures { result ≡ access_of self }
     {
         match self {
-            Event::Load { location, value: _ } => Some(Access {
+            Event::Load { location, .. } => Some(Access {
                 kind: Kind::Load,
                 location,
             }),
-            Event::Store { location, value: _ } => Some(Access {
+            Event::Store { location, .. } => Some(Access {
                 kind: Kind::Store,
                 location,
             }),

@@ -1,31 +1,31 @@
 ghost use Rattle.std.specs.Prelude.{◌≡◌};
 ghost use Rattle.trace.specs.Refusals.{number_of};
 
-/// Why a file or a call is declined. docs/REFUSALS.md says when each cause holds.
-#[derive(Clone, Copy)]
+/// Why a file or a call is declined, with its number. docs/REFUSALS.md says when each cause holds.
+#[derive(Clone, Copy, Debug, PartialEq, Eq)]
 pub enum Cause {
-    Short,
-    Version,
-    Length,
-    Head,
-    Missing,
-    Unknown,
-    TooMuch,
-    TooManyRuns,
-    HandInLength,
-    NoSuchRun,
-    IdleRun,
-    StartRegisters,
-    Misfit,
-    Forbidden,
-    Overlong,
-    Ending,
-    NoRoom,
-    Stream,
+    Short = 1,
+    Version = 2,
+    Length = 3,
+    Head = 4,
+    Missing = 5,
+    Unknown = 6,
+    TooMuch = 7,
+    TooManyRuns = 8,
+    HandInLength = 9,
+    NoSuchRun = 10,
+    IdleRun = 11,
+    StartRegisters = 12,
+    Misfit = 13,
+    Forbidden = 14,
+    Overlong = 15,
+    Ending = 16,
+    NoRoom = 17,
+    Stream = 18,
 }
 
 /// A cause, with the place in a file or the number of a step where it holds.
-#[derive(Clone, Copy)]
+#[derive(Clone, Copy, Debug, PartialEq, Eq)]
 pub struct Refusal {
     pub cause: Cause,
     pub place: usize,
@@ -36,25 +36,6 @@ impl Cause {
     pub fn number(self) -> u8
         ensures { result ≡ number_of self }
     {
-        match self {
-            Cause::Short => 1,
-            Cause::Version => 2,
-            Cause::Length => 3,
-            Cause::Head => 4,
-            Cause::Missing => 5,
-            Cause::Unknown => 6,
-            Cause::TooMuch => 7,
-            Cause::TooManyRuns => 8,
-            Cause::HandInLength => 9,
-            Cause::NoSuchRun => 10,
-            Cause::IdleRun => 11,
-            Cause::StartRegisters => 12,
-            Cause::Misfit => 13,
-            Cause::Forbidden => 14,
-            Cause::Overlong => 15,
-            Cause::Ending => 16,
-            Cause::NoRoom => 17,
-            Cause::Stream => 18,
-        }
+        self as u8
     }
 }
