@@ -13,7 +13,7 @@ use Rattle.pairs.proofs.Heads.{header_ok, header_is}
 use Rattle.handins.specs.declared.hand_in.HandIn.{HandIn}
 use Rattle.handins.specs.Encoded.{Derivation, encode_steps, encode_rest, encode_hand_in, IsHandIn}
 use Rattle.handins.specs.File.{step_at, steps_from, right_length, derivation_at}
-use Rattle.handins.specs.Meant.{meant, Judged}
+use Rattle.handins.specs.Meant.{meant, OnlyHandIn, Judged}
 
 long_steps : (ss : List Step) → length (encode_steps ss) ≡ 4 * length ss
 long_steps [] = refl
@@ -98,6 +98,9 @@ complete bs d i =
     let from : get_or bs 5 0 * 256 + get_or bs 6 0 ≡ d.from = omega (arith, r.1.1.0, r.1.1.1.0) in
     rw (header, right, count, to, from, steps_back bs 7 d.steps r.1.1.1.1) refl
 
+pub only_hand_in : (d : Derivation) (bs : List ℕ) → Bytes bs → derivation_at bs ≡ Ok d → OnlyHandIn bs d
+only_hand_in d bs b e = record { is = sound bs d b e; only = λ c i. ok_inj c d (sym (complete bs c i) ∙ e) }
+
 pub judged : (r : Result HandIn Refusal) (bs : List ℕ) → Bytes bs → Gives r (derivation_at bs) meant → Judged r bs
-judged (Ok h) bs b e = record { is = sound bs (meant h) b e; only = λ c i. ok_inj c (meant h) (sym (complete bs c i) ∙ e) }
+judged (Ok h) bs b e = only_hand_in (meant h) bs b e
 judged (Err x) bs b e = λ d i. no_ok x d (sym e ∙ complete bs d i)

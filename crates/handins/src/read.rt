@@ -1,4 +1,4 @@
-ghost use Rattle.std.specs.Prelude.{◌≡◌, ◌+◌, ◌*◌, ◌≤◌, length, take, slice_index};
+ghost use Rattle.std.specs.Prelude.{◌≡◌, ◌≤◌, ◌/◌, length, take};
 ghost use Rattle.snippet.specs.Reads.{Gives};
 ghost use Rattle.handins.specs.File.{step_at, steps_from, derivation_at};
 ghost use Rattle.handins.specs.Meant.{meant, Judged};
@@ -8,31 +8,23 @@ use pairs::check_header;
 use rewrite::Step;
 use trace::{Cause, Refusal};
 
-// The number in two bytes, the higher first.
-fn number_at(bytes: &[u8], at: usize) -> u16
-    requires { at + 2 ≤ length bytes.now }
-    ensures { result ≡ slice_index bytes.now at * 256 + slice_index bytes.now (at + 1) }
-{
-    bytes[at] as u16 * 256 + bytes[at + 1] as u16
-}
-
-fn step_at(bytes: &[u8], at: usize) -> Step
-    requires { at + 4 ≤ length bytes.now }
-    ensures { result ≡ step_at bytes.now at }
+// The step that four bytes stand for.
+fn step_of(bytes: &[u8]) -> Step
+    requires { 4 ≤ length bytes.now }
+    ensures { result ≡ step_at bytes.now 0 }
 {
     Step {
-        rule: bytes[at],
-        place: bytes[at + 1],
-        location: bytes[at + 2],
-        value: bytes[at + 3],
+        rule: bytes[0],
+        place: bytes[1],
+        location: bytes[2],
+        value: bytes[3],
     }
 }
 
-// The steps that stand behind the two run numbers.
-fn read_steps(bytes: &[u8], count: usize) -> [Step; 64]
-    requires few { count ≤ 64 }
-    requires there { 7 + 4 * count ≤ length bytes.now }
-    ensures steps { take count result ≡ steps_from bytes.now 7 count }
+// The steps that the bytes stand for, four bytes each.
+fn read_steps(bytes: &[u8]) -> [Step; 64]
+    requires few { length bytes.now ≤ 256 }
+    ensures steps { take (length bytes.now / 4) result ≡ steps_from bytes.now 0 (length bytes.now / 4) }
     ensures full { length result ≡ 64 }
 {
     let mut steps = [Step {
@@ -41,39 +33,32 @@ fn read_steps(bytes: &[u8], count: usize) -> [Step; 64]
         location: 0,
         value: 0,
     }; 64];
-    for i in 0..count {
-        steps[i] = step_at(bytes, 7 + 4 * i);
+    for (i, chunk) in bytes.chunks_exact(4).enumerate() {
+        steps[i] = step_of(chunk);
     }
     steps
 }
 
-fn read_parts(bytes: &[u8]) -> Result<HandIn, Refusal>
-    ensures { Gives result (derivation_at bytes.now) meant }
-{
-    check_header(bytes)?;
-    let rest = bytes.len() - 3;
-    if rest < 4 || rest > 260 || rest % 4 != 0 {
-        return Err(Refusal {
-            cause: Cause::HandInLength,
-            place: 0,
-        });
-    }
-    let count = (rest - 4) / 4;
-    let replacement = number_at(bytes, 3);
-    let original = number_at(bytes, 5);
-    let steps = read_steps(bytes, count);
-    Ok(HandIn {
-        replacement,
-        original,
-        steps,
-        count,
-    })
-}
-
 /// The hand-in whose file the bytes are.
+#[tactic(auto, using(crate::proofs::Laws::judged))]
 pub fn read_hand_in(bytes: &[u8]) -> Result<HandIn, Refusal>
     ensures gives { Gives result (derivation_at bytes.now) meant }
     ensures judged { Judged result bytes.now }
 {
-    read_parts(bytes)
+    check_header(bytes)?;
+    match bytes {
+        [_, _, _, to_high, to_low, from_high, from_low, steps @ ..]
+            if steps.len() <= 256 && steps.len() % 4 == 0 => {
+            Ok(HandIn {
+                replacement: u16::from_be_bytes([*to_high, *to_low]),
+                original: u16::from_be_bytes([*from_high, *from_low]),
+                steps: read_steps(steps),
+                count: steps.len() / 4,
+            })
+        }
+        _ => Err(Refusal {
+            cause: Cause::HandInLength,
+            place: 0,
+        }),
+    }
 }

@@ -14,7 +14,7 @@ use Rattle.snippet.specs.Reads.{Gives}
 use Rattle.snippet.specs.Runs.{runs_of}
 use Rattle.pairs.specs.Program.{Program}
 use Rattle.pairs.specs.Encoded.{encode_rest, encode_pair, IsFile}
-use Rattle.pairs.specs.Meant.{meant, Judged}
+use Rattle.pairs.specs.Meant.{meant, OnlyFile, Judged}
 use Rattle.pairs.specs.File.{header_at, limit_at, sizes_at, end_at, few_runs, pair_at}
 use Rattle.pairs.proofs.Heads.{header_ok, header_is}
 use Rattle.pairs.specs.declared.pair.Pair.{Pair}
@@ -123,6 +123,9 @@ complete bs P e =
         → eqb (length bs) (length bs) ≡ true → few_runs m t ≡ Ok tt → few_runs m u ≡ Ok tt → pair_at bs ≡ Ok (record { sizes = m; original = t; replacement = u })
     rest m t u middle a c d f n x y = rw (a, c, d, f, n, x, y) refl
 
+pub only_file : (P : Program) (bs : List ℕ) → Bytes bs → pair_at bs ≡ Ok P → OnlyFile bs P
+only_file P bs b e = record { is = sound bs P b e; only = λ Q h. ok_inj Q P (sym (complete bs Q h) ∙ e) }
+
 pub judged : (r : Result Pair Refusal) (bs : List ℕ) → Bytes bs → Gives r (pair_at bs) meant → Judged r bs
-judged (Ok p) bs b e = record { is = sound bs (meant p) b e; only = λ Q h. ok_inj Q (meant p) (sym (complete bs Q h) ∙ e) }
+judged (Ok p) bs b e = only_file (meant p) bs b e
 judged (Err x) bs b e = λ P h. no_ok x P (sym e ∙ complete bs P h)

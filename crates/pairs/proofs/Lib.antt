@@ -1,2 +1,2 @@
 pub mod Heads
-mod Laws
+pub mod Laws

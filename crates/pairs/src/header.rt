@@ -8,19 +8,19 @@ pub fn check_header(bytes: &[u8]) -> Result<(), Refusal>
     ensures value { result ≡ header_at bytes.now }
     ensures long { OnOk result (3 ≤ length bytes.now) }
 {
-    if bytes.len() < 3 {
+    let [version, high, low, rest @ ..] = bytes else {
         return Err(Refusal {
             cause: Cause::Short,
             place: 0,
         });
-    }
-    if bytes[0] != 1 {
+    };
+    if *version != 1 {
         return Err(Refusal {
             cause: Cause::Version,
             place: 0,
         });
     }
-    if bytes[1] as usize * 256 + bytes[2] as usize != bytes.len() - 3 {
+    if usize::from(u16::from_be_bytes([*high, *low])) != rest.len() {
         return Err(Refusal {
             cause: Cause::Length,
             place: 1,

@@ -14,20 +14,13 @@ fn limit(bytes: &[u8], at: usize, low: u8, high: u8) -> Result<u8, Refusal>
     ensures value { result ≡ limit_at bytes.now at low high }
     ensures bound { From result low high }
 {
-    if at >= bytes.len() {
-        return Err(Refusal {
+    match bytes.get(at) {
+        Some(&value) if low <= value && value <= high => Ok(value),
+        _ => Err(Refusal {
             cause: Cause::Head,
             place: at,
-        });
+        }),
     }
-    let value = bytes[at];
-    if value < low || value > high {
-        return Err(Refusal {
-            cause: Cause::Head,
-            place: at,
-        });
-    }
-    Ok(value)
 }
 
 fn read_limits(bytes: &[u8]) -> Result<Limits, Refusal>
@@ -57,8 +50,11 @@ fn check_end(bytes: &[u8], at: usize) -> Result<(), Refusal>
     }
 }
 
-fn read_parts(bytes: &[u8]) -> Result<Pair, Refusal>
-    ensures { Gives result (pair_at bytes.now) meant }
+/// The pair whose file the bytes are.
+#[tactic(auto, using(crate::proofs::Laws::judged))]
+pub fn read_pair(bytes: &[u8]) -> Result<Pair, Refusal>
+    ensures gives { Gives result (pair_at bytes.now) meant }
+    ensures judged { Judged result bytes.now }
 {
     check_header(bytes)?;
     let limits = read_limits(bytes)?;
@@ -71,12 +67,4 @@ fn read_parts(bytes: &[u8]) -> Result<Pair, Refusal>
         original,
         replacement,
     })
-}
-
-/// The pair whose file the bytes are.
-pub fn read_pair(bytes: &[u8]) -> Result<Pair, Refusal>
-    ensures gives { Gives result (pair_at bytes.now) meant }
-    ensures judged { Judged result bytes.now }
-{
-    read_parts(bytes)
 }
