@@ -2,7 +2,7 @@ ghost use Rattle.std.specs.Prelude.{◌≡◌, ℕ, [], ◌∷◌, Some, MatchBo
 ghost use Rattle.trace.specs.Words.{Word};
 ghost use Rattle.trace.specs.declared.event.Access.{Access as Touch};
 ghost use Rattle.rewrite.specs.declared.working.Question.{Question as Asked};
-ghost use Rattle.rewrite.specs.Steps.{Turns, rule_of, answer};
+ghost use Rattle.rewrite.specs.Steps.{Turns, answer};
 ghost use Rattle.rewrite.specs.Views.{as_load, as_store, left};
 
 use crate::working::{Question, Rule};
@@ -10,22 +10,6 @@ use ordering::{Model, Removal};
 use trace::{Access, Event};
 
 mod steps;
-
-// The rule that a number stands for.
-fn rule_of(number: u8) -> Option<Rule>
-    ensures { result ≡ rule_of number }
-{
-    match number {
-        1 => Some(Rule::Swap),
-        2 => Some(Rule::Forward),
-        3 => Some(Rule::LoadAfterLoad),
-        4 => Some(Rule::StoreBeforeStore),
-        5 => Some(Rule::StoreAfterLoad),
-        6 => Some(Rule::LoadAfterStore),
-        7 => Some(Rule::NewLoad),
-        _ => None,
-    }
-}
 
 // The location and the value of a load.
 fn load_of(e: Event) -> Option<(u8, u8)>

@@ -21,6 +21,13 @@ pub struct Step {
     pub value: u8,
 }
 
+/// What a program has: values below `values`, and locations below `locations`.
+#[derive(Clone, Copy)]
+pub struct Ranges {
+    pub values: u8,
+    pub locations: u8,
+}
+
 /// The rules 1 to 7, in this order.
 #[derive(Clone, Copy)]
 pub enum Rule {

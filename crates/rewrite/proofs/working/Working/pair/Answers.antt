@@ -22,14 +22,14 @@ pub returns-then-ask : goal.returns-then-ask
 returns-then-ask g c =
     let W = c.args.self.now in
     let s = c.args.step in
-    let F = make_pair c.args.v c.args.l s (word W) c.args.rule c.requires.number c.requires.pairs (omega arith) (omega arith) (omega (arith, word_long W)) _ _ _ _ _ _ (word_at W s.place _ (omega arith)) (word_at W (s.place + 1) _ (omega arith)) (c.in-Some.ensures s.location s.value) in
-    ((c.in-Some.question, subst (λ (x : Word). Fits c.args.v c.args.l s (word W) x c.in-Some.question) (sym c.turn.ensures) F, sym c.if-ask.ensures), word_short c.turn.new.self)
+    let F = make_pair c.args.ranges.values c.args.ranges.locations s (word W) c.args.rule c.requires.number c.requires.pairs (omega arith) (omega arith) (omega (arith, word_long W)) _ _ _ _ _ _ (word_at W s.place _ (omega arith)) (word_at W (s.place + 1) _ (omega arith)) (c.in-Some.ensures s.location s.value) in
+    ((c.in-Some.question, subst (λ (x : Word). Fits c.args.ranges.values c.args.ranges.locations s (word W) x c.in-Some.question) (sym c.turn.ensures) F, sym c.if-ask.ensures), word_short c.turn.new.self)
 
 pub returns-else-ask : goal.returns-else-ask
 returns-else-ask g c =
     let W = c.args.self.now in
     let s = c.args.step in
-    let F = make_pair c.args.v c.args.l s (word W) c.args.rule c.requires.number c.requires.pairs (omega arith) (omega arith) (omega (arith, word_long W)) _ _ _ _ _ _ (word_at W s.place _ (omega arith)) (word_at W (s.place + 1) _ (omega arith)) (c.in-Some.ensures s.location s.value) in (
+    let F = make_pair c.args.ranges.values c.args.ranges.locations s (word W) c.args.rule c.requires.number c.requires.pairs (omega arith) (omega arith) (omega (arith, word_long W)) _ _ _ _ _ _ (word_at W s.place _ (omega arith)) (word_at W (s.place + 1) _ (omega arith)) (c.in-Some.ensures s.location s.value) in (
       refl,
       (_, _, F),
       λ w (q, G, y).
