@@ -1,4 +1,4 @@
-ghost use Rattle.std.specs.Prelude.{◌≡◌, ◌≤◌, length};
+ghost use Rattle.std.specs.Prelude.{◌≤◌};
 
 use ordering::Removal;
 use trace::{Access, Event};
@@ -8,8 +8,7 @@ use trace::{Access, Event};
 pub struct Working {
     pub(crate) events: [Event; 48],
     pub(crate) len: usize,
-    ghost room: { length events ≡ 48 },
-    ghost ok: { len ≤ 48 },
+    ghost room: { len ≤ 48 },
 }
 
 /// A step as it is written: a rule's number, a place, and for rule 7 a location and a value.
