@@ -1,5 +1,5 @@
 -- When a step fits.
-use Rattle.std.proofs.Common.{◌≡◌, ℕ, ◌+◌, ◌<◌, ◌≤◌, [], ◌∷◌, ◌++◌, length, get_or, take, drop, Some, sym, refl, ap, ◌∙◌, subst, ap₂, add_assoc, arith}
+use Rattle.std.proofs.Common.{◌≡◌, ℕ, ◌+◌, ◌<◌, ◌≤◌, [], ◌∷◌, ◌++◌, length, get_or, take, drop, Some, sym, refl, ap, ◌∙◌, subst, ap₂, add_assoc, arith, length-take}
 use Rattle.std.proofs.lemmas.List.{take-append-drop, take_at, drop_at, drop_more, length-append, length-take-le, get_or-take}
 use Rattle.std.proofs.lemmas.List.Prefix.{at_reads}
 use Rattle.trace.specs.declared.event.Event.{Event}
@@ -143,11 +143,11 @@ module _ (v l : ℕ) (s : Step) (w : Word) where
     turns = new_load;
   }
 
-pub word_long : (W : Working) → length (word W) ≡ W.len
-word_long W = length-take-le W.len W.events (omega (arith, W.ok, W.room))
+pub word_long : (W : Working) → length W.events ≡ 48 → length (word W) ≡ W.len
+word_long W h = length-take-le W.len W.events (omega (arith, W.room))
 
 pub word_short : (W : Working) → length (word W) ≤ 48
-word_short W = omega (arith, W.ok, word_long W)
+word_short W = omega (arith, W.room, length-take W.len W.events)
 
 -- an event of the word, as the code reads it
 pub word_at : (W : Working) (i : ℕ) (d : Event) → i < W.len → get_or W.events i d ≡ get_or (word W) i d

@@ -1,97 +1,61 @@
 -- The rules on two events, by the events' parts.
-use Rattle.std.proofs.Common.{◌≡◌, ℕ, [], ◌∷◌, Some, None, Option, sym, refl, ap, ◌∙◌, arith}
+use Rattle.std.proofs.Common.{◌≡◌, ℕ, [], ◌∷◌, Some, None, Option, Bool, true, false, MatchBool, MatchOption, ◌≢◌, sym, refl, ◌∙◌}
+use Rattle.std.specs.Bool.{then_some}
 use Rattle.trace.specs.declared.event.Event.{Event}
 use Rattle.trace.specs.declared.event.Event.TheVariants.{Load as load, Store as store, LoadStore as load_store_event, Fence as fence, Get as get, Print as print}
 use Rattle.trace.specs.declared.event.Access.{Access}
 use Rattle.trace.specs.declared.event.Kind.TheVariants as kinds
 use Rattle.trace.specs.Words.{Word, access, access_of}
-use Rattle.ordering.specs.declared.model.Removal.TheVariants as removals
 use Rattle.surroundings.specs.Steps.{IsAccess, is_load, is_store}
-use Rattle.rewrite.specs.declared.working.Rule.TheVariants.{Swap, Forward, LoadAfterLoad, StoreBeforeStore, StoreAfterLoad, LoadAfterStore, NewLoad}
+use Rattle.rewrite.specs.declared.working.Rule.{Rule}
+use Rattle.rewrite.specs.declared.working.Rule.TheVariants.{Swap, Forward, LoadAfterLoad, StoreBeforeStore, StoreAfterLoad, LoadAfterStore}
 use Rattle.rewrite.specs.declared.working.Question.{Question}
-use Rattle.rewrite.specs.declared.working.Question.TheVariants.{MaySwap, Forwards, Permits, Nothing}
+use Rattle.rewrite.specs.declared.working.Question.TheVariants.{MaySwap, Nothing}
 use Rattle.rewrite.specs.Steps.{Turns, swap, forward, loads, stores, load_store, store_load}
-use Rattle.rewrite.specs.Views.{as_load, as_store}
-
-some_pair : (a b : ℕ × ℕ) → ◌≡◌ {A = Option (ℕ × ℕ)} (Some a) (Some b) → a ≡ b
-some_pair a b h = cc
-
-load_from : (e : Event) (L x : ℕ) → as_load e ≡ Some (L, x) → e ≡ load L x
-load_from (load K y) L x h = ap (λ (p : ℕ × ℕ). load p.0 p.1) (some_pair (K, y) (L, x) h)
-load_from (store K y) L x h = cc
-load_from (load_store_event K y z) L x h = cc
-load_from fence L x h = cc
-load_from (get y) L x h = cc
-load_from (print y) L x h = cc
-
-store_from : (e : Event) (L x : ℕ) → as_store e ≡ Some (L, x) → e ≡ store L x
-store_from (load K y) L x h = cc
-store_from (store K y) L x h = ap (λ (p : ℕ × ℕ). store p.0 p.1) (some_pair (K, y) (L, x) h)
-store_from (load_store_event K y z) L x h = cc
-store_from fence L x h = cc
-store_from (get y) L x h = cc
-store_from (print y) L x h = cc
-
-impossible : (a : Access) → ◌≡◌ {A = Option Access} None (Some a) → ⊥
-impossible a h = let z : ◌≡◌ {A = ℕ} 0 1 = cc in omega arith
-
-some : (a b : Access) → ◌≡◌ {A = Option Access} (Some a) (Some b) → a ≡ b
-some a b h = cc
+use Rattle.rewrite.specs.Views.{left}
 
 access_from : (e : Event) (a : Access) → access_of e ≡ Some a → IsAccess e a
-access_from (load K y) a h = rw (sym (some (access kinds.Load K) a h)) is_load
-access_from (store K y) a h = rw (sym (some (access kinds.Store K) a h)) is_store
-access_from (load_store_event K y z) a h = absurd (impossible a h)
-access_from fence a h = absurd (impossible a h)
-access_from (get y) a h = absurd (impossible a h)
-access_from (print y) a h = absurd (impossible a h)
+access_from (load K y) a h = let p : access kinds.Load K ≡ a = cc in rw (sym p) is_load
+access_from (store K y) a h = let p : access kinds.Store K ≡ a = cc in rw (sym p) is_store
+access_from (load_store_event K y z) a h = cc
+access_from fence a h = cc
+access_from (get y) a h = cc
+access_from (print y) a h = cc
 
 pub access_to : {e : Event} {a : Access} → IsAccess e a → access_of e ≡ Some a
 access_to is_load = refl
 access_to is_store = refl
 
--- both have the location and the value in common
-abbrev Both : (a b : Option (ℕ × ℕ)) → ℕ → Type 0
-Both a b L = (x : ℕ) × (a ≡ Some (L, x)) × (b ≡ Some (L, x))
-
-abbrev Neither : (a b : Option (ℕ × ℕ)) → Type 0
-Neither a b = (L x : ℕ) → a ≡ Some (L, x) → b ≡ Some (L, x) → ⊥
-
-pub yes_forward : {e f : Event} {a b : Option (ℕ × ℕ)} → a ≡ as_store e → b ≡ as_load f → {L : ℕ} → Both a b L → (K z : ℕ) → Turns K z Forward (e ∷ f ∷ []) (e ∷ []) (Forwards L)
-yes_forward {e} {f} p q {L} (x, s, t) K z = rw (store_from e L x (sym p ∙ s), load_from f L x (sym q ∙ t)) forward
-
-pub no_forward : {e f : Event} {a b : Option (ℕ × ℕ)} → a ≡ as_store e → b ≡ as_load f → Neither a b → (K z : ℕ) (Y : Word) (o : Question) → Turns K z Forward (e ∷ f ∷ []) Y o → ⊥
-no_forward p q h K z _ _ (forward {L} {x}) = h L x p q
-
-pub yes_loads : {e f : Event} {a b : Option (ℕ × ℕ)} → a ≡ as_load e → b ≡ as_load f → {L : ℕ} → Both a b L → (K z : ℕ) → Turns K z LoadAfterLoad (e ∷ f ∷ []) (e ∷ []) Nothing
-yes_loads {e} {f} p q {L} (x, s, t) K z = rw (load_from e L x (sym p ∙ s), load_from f L x (sym q ∙ t)) loads
-
-pub no_loads : {e f : Event} {a b : Option (ℕ × ℕ)} → a ≡ as_load e → b ≡ as_load f → Neither a b → (K z : ℕ) (Y : Word) (o : Question) → Turns K z LoadAfterLoad (e ∷ f ∷ []) Y o → ⊥
-no_loads p q h K z _ _ (loads {L} {x}) = h L x p q
-
-pub yes_five : {e f : Event} {a b : Option (ℕ × ℕ)} → a ≡ as_load e → b ≡ as_store f → {L : ℕ} → Both a b L → (K z : ℕ) → Turns K z StoreAfterLoad (e ∷ f ∷ []) (e ∷ []) (Permits removals.StoreAfterLoad L)
-yes_five {e} {f} p q {L} (x, s, t) K z = rw (load_from e L x (sym p ∙ s), store_from f L x (sym q ∙ t)) load_store
-
-pub no_five : {e f : Event} {a b : Option (ℕ × ℕ)} → a ≡ as_load e → b ≡ as_store f → Neither a b → (K z : ℕ) (Y : Word) (o : Question) → Turns K z StoreAfterLoad (e ∷ f ∷ []) Y o → ⊥
-no_five p q h K z _ _ (load_store {L} {x}) = h L x p q
-
-pub yes_six : {e f : Event} {a b : Option (ℕ × ℕ)} → a ≡ as_store e → b ≡ as_load f → {L : ℕ} → Both a b L → (K z : ℕ) → Turns K z LoadAfterStore (e ∷ f ∷ []) (e ∷ []) (Permits removals.LoadAfterStore L)
-yes_six {e} {f} p q {L} (x, s, t) K z = rw (store_from e L x (sym p ∙ s), load_from f L x (sym q ∙ t)) store_load
-
-pub no_six : {e f : Event} {a b : Option (ℕ × ℕ)} → a ≡ as_store e → b ≡ as_load f → Neither a b → (K z : ℕ) (Y : Word) (o : Question) → Turns K z LoadAfterStore (e ∷ f ∷ []) Y o → ⊥
-no_six p q h K z _ _ (store_load {L} {x}) = h L x p q
-
-pub yes_stores : {e f : Event} {a b : Option (ℕ × ℕ)} → a ≡ as_store e → b ≡ as_store f → (L x y : ℕ) × (a ≡ Some (L, x)) × (b ≡ Some (L, y)) → (K z : ℕ) → Turns K z StoreBeforeStore (e ∷ f ∷ []) (f ∷ []) Nothing
-yes_stores {e} {f} p q (L, x, y, s, t) K z = rw (store_from e L x (sym p ∙ s), store_from f L y (sym q ∙ t)) stores
-
-pub no_stores : {e f : Event} {a b : Option (ℕ × ℕ)} → a ≡ as_store e → b ≡ as_store f → ((L x y : ℕ) → a ≡ Some (L, x) → b ≡ Some (L, y) → ⊥) → (K z : ℕ) (Y : Word) (o : Question) → Turns K z StoreBeforeStore (e ∷ f ∷ []) Y o → ⊥
-no_stores p q h K z _ _ (stores {L} {x} {y}) = h L x y p q
-
 pub yes_swap : {e f : Event} {a b : Option Access} → a ≡ access_of e → b ≡ access_of f → {i j : Access} → (a ≡ Some i) × (b ≡ Some j) → (K z : ℕ) → Turns K z Swap (e ∷ f ∷ []) (f ∷ e ∷ []) (MaySwap i j)
 yes_swap {e} {f} p q {i} {j} (s, t) K z = swap (access_from e i (sym p ∙ s)) (access_from f j (sym q ∙ t))
 
-pub no_swap : {e f : Event} {a b : Option Access} → a ≡ access_of e → b ≡ access_of f → ((i j : Access) → a ≡ Some i → b ≡ Some j → ⊥) → (K z : ℕ) (Y : Word) (o : Question) → Turns K z Swap (e ∷ f ∷ []) Y o → ⊥
-no_swap p q h K z _ _ (swap {a = a} {b = b} i j) = h a b (p ∙ access_to i) (q ∙ access_to j)
+pub no_swap : {e f : Event} → access_of f ≡ None → (K z : ℕ) (Y : Word) (q : Question) → Turns K z Swap (e ∷ f ∷ []) Y q → ⊥
+no_swap h K z Y q (swap i j) = let p = access_to j in cc
 
-pub no_new_load : {e f : Event} (K z : ℕ) (Y : Word) (o : Question) → Turns K z NewLoad (e ∷ f ∷ []) Y o → ⊥
-no_new_load K z Y o t = elim t [ ]
+-- what comes after the first event
+pub after_forward : {L x K z : ℕ} {f : Event} {Y : Word} {q : Question} → Turns K z Forward (store L x ∷ f ∷ []) Y q → f ≡ load L x
+after_forward forward = refl
+
+pub after_loads : {L x K z : ℕ} {f : Event} {Y : Word} {q : Question} → Turns K z LoadAfterLoad (load L x ∷ f ∷ []) Y q → f ≡ load L x
+after_loads loads = refl
+
+pub after_load_store : {L x K z : ℕ} {f : Event} {Y : Word} {q : Question} → Turns K z StoreAfterLoad (load L x ∷ f ∷ []) Y q → f ≡ store L x
+after_load_store load_store = refl
+
+pub after_store_load : {L x K z : ℕ} {f : Event} {Y : Word} {q : Question} → Turns K z LoadAfterStore (store L x ∷ f ∷ []) Y q → f ≡ load L x
+after_store_load store_load = refl
+
+after_stores : {L x K z : ℕ} {f : Event} {Y : Word} {q : Question} → Turns K z StoreBeforeStore (store L x ∷ f ∷ []) Y q → (y : ℕ) × (f ≡ store L y)
+after_stores (stores {y = y}) = (y, refl)
+
+-- two stores fit exactly if they are to one location
+pub stores_fit : (L x : ℕ) (f : Event) (b : Bool) (o : Option Question) → o ≡ then_some b Nothing → MatchBool b ((y : ℕ) × (f ≡ store L y)) ((y : ℕ) → f ≢ store L y)
+    → MatchOption o ((K z : ℕ) (Y : Word) (q : Question) → Turns K z StoreBeforeStore (store L x ∷ f ∷ []) Y q → ⊥) (λ q. (K z : ℕ) → Turns K z StoreBeforeStore (store L x ∷ f ∷ []) (f ∷ []) q)
+stores_fit L x f true o e p = rw e (λ K z. rw p.1 stores)
+stores_fit L x f false o e n = rw e (λ K z Y q t. let p = after_stores t in n p.0 p.1)
+
+-- the rule fits exactly if the second event is the one that is wanted
+pub wanted_fits : {R : Rule} {e f w : Event} (o : Option Question) (Q : Question) → ((K z : ℕ) → Turns K z R (e ∷ w ∷ []) (left R e w) Q) → ((K z : ℕ) (Y : Word) (q : Question) → Turns K z R (e ∷ f ∷ []) Y q → f ≡ w) → MatchOption o (f ≢ w) (λ q. (f ≡ w) × (q ≡ Q))
+    → MatchOption o ((K z : ℕ) (Y : Word) (q : Question) → Turns K z R (e ∷ f ∷ []) Y q → ⊥) (λ q. (K z : ℕ) → Turns K z R (e ∷ f ∷ []) (left R e f) q)
+wanted_fits None Q fits only n = λ K z Y q t. n (only K z Y q t)
+wanted_fits (Some q) Q fits only p = λ K z. rw (p.0, p.1) (fits K z)

@@ -2,7 +2,8 @@
 
 #![tactic(auto)]
 
+mod convert;
 mod look;
 mod working;
 
-pub use working::{Denied, Question, Rule, Step, Stopped, Working};
+pub use working::{Denied, Question, Ranges, Rule, Step, Stopped, Working};

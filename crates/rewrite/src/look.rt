@@ -1,114 +1,63 @@
-ghost use Rattle.std.specs.Prelude.{◌≡◌, ℕ, [], ◌∷◌, Some, MatchBool, MatchOption, ◌≢◌};
+ghost use Rattle.std.specs.Prelude.{◌≡◌, ◌≢◌, ℕ, [], ◌∷◌, MatchBool, MatchOption};
 ghost use Rattle.trace.specs.Words.{Word};
-ghost use Rattle.trace.specs.declared.event.Access.{Access as Touch};
 ghost use Rattle.rewrite.specs.declared.working.Question.{Question as Asked};
-ghost use Rattle.rewrite.specs.Steps.{Turns, rule_of, answer};
-ghost use Rattle.rewrite.specs.Views.{as_load, as_store, left};
+ghost use Rattle.rewrite.specs.Steps.{Turns, answer};
+ghost use Rattle.rewrite.specs.Views.{left};
 
 use crate::working::{Question, Rule};
 use ordering::{Model, Removal};
-use trace::{Access, Event};
+use trace::Event;
 
 mod steps;
 
-// The rule that a number stands for.
-fn rule_of(number: u8) -> Option<Rule>
-    ensures { result ≡ rule_of number }
+// Whether the event is a store to the location.
+fn stores_to(event: Event, location: u8) -> bool
+    ensures { MatchBool result ((x : ℕ) × (event ≡ Event.Store location x)) ((x : ℕ) → event ≢ Event.Store location x) }
 {
-    match number {
-        1 => Some(Rule::Swap),
-        2 => Some(Rule::Forward),
-        3 => Some(Rule::LoadAfterLoad),
-        4 => Some(Rule::StoreBeforeStore),
-        5 => Some(Rule::StoreAfterLoad),
-        6 => Some(Rule::LoadAfterStore),
-        7 => Some(Rule::NewLoad),
-        _ => None,
-    }
+    matches!(event, Event::Store { location: l, .. } if l == location)
 }
 
-// The location and the value of a load.
-fn load_of(e: Event) -> Option<(u8, u8)>
-    ensures { result ≡ as_load e }
+// The question, if the event is the one that the rule wants there.
+fn if_same(event: Event, wanted: Event, question: Question) -> Option<Question>
+    ensures { MatchOption result (event ≢ wanted) (λ q. (event ≡ wanted) × (q ≡ question)) }
 {
-    match e {
-        Event::Load { location, value } => Some((location, value)),
-        _ => None,
-    }
-}
-
-// The location and the value of a store.
-fn store_of(e: Event) -> Option<(u8, u8)>
-    ensures { result ≡ as_store e }
-{
-    match e {
-        Event::Store { location, value } => Some((location, value)),
-        _ => None,
-    }
-}
-
-// The location of two accesses that have both location and value in common.
-fn alike(a: Option<(u8, u8)>, b: Option<(u8, u8)>) -> Option<u8>
-    ensures { MatchOption result ((L x : ℕ) → a ≡ Some (L, x) → b ≢ Some (L, x)) (λ L. (x : ℕ) × (a ≡ Some (L, x)) × (b ≡ Some (L, x))) }
-{
-    match (a, b) {
-        (Some((l, x)), Some((k, y))) => { if l == k && x == y { Some(l) } else { None } }
-        _ => None,
-    }
-}
-
-// Whether two accesses have the location in common.
-fn same_location(a: Option<(u8, u8)>, b: Option<(u8, u8)>) -> bool
-    ensures { MatchBool result ((L x y : ℕ) × (a ≡ Some (L, x)) × (b ≡ Some (L, y))) ((L x y : ℕ) → a ≡ Some (L, x) → b ≢ Some (L, y)) }
-{
-    match (a, b) {
-        (Some((l, _x)), Some((k, _y))) => { if l == k { true } else { false } }
-        _ => false,
-    }
-}
-
-fn both(a: Option<Access>, b: Option<Access>) -> Option<(Access, Access)>
-    ensures { MatchOption result ((i j : Touch) → a ≡ Some i → b ≢ Some j) (λ p. (a ≡ Some p.0) × (b ≡ Some p.1)) }
-{
-    match (a, b) {
-        (Some(i), Some(j)) => Some((i, j)),
-        _ => None,
-    }
+    (event == wanted).then_some(question)
 }
 
 // What the rule asks of the model for the two events, if they fit.
 fn fits(rule: Rule, e: Event, f: Event) -> Option<Question>
     ensures { MatchOption result ((K z : ℕ) (Y : Word) (q : Asked) → Turns K z rule (e ∷ f ∷ []) Y q → ⊥) (λ q. (K z : ℕ) → Turns K z rule (e ∷ f ∷ []) (left rule e f) q) }
 {
-    match rule {
-        Rule::Swap => match both(e.access(), f.access()) {
-            Some((a, b)) => Some(Question::MaySwap(a, b)),
-            None => None,
-        },
-        Rule::Forward => match alike(store_of(e), load_of(f)) {
-            Some(l) => Some(Question::Forwards(l)),
-            None => None,
-        },
-        Rule::LoadAfterLoad => match alike(load_of(e), load_of(f)) {
-            Some(_l) => Some(Question::Nothing),
-            None => None,
-        },
-        Rule::StoreBeforeStore => {
-            if same_location(store_of(e), store_of(f)) {
-                Some(Question::Nothing)
-            } else {
-                None
-            }
+    match (rule, e) {
+        (Rule::Swap, _) => {
+            let (a, b) = (e.access()?, f.access()?);
+            Some(Question::MaySwap(a, b))
         }
-        Rule::StoreAfterLoad => match alike(load_of(e), store_of(f)) {
-            Some(l) => Some(Question::Permits(Removal::StoreAfterLoad, l)),
-            None => None,
-        },
-        Rule::LoadAfterStore => match alike(store_of(e), load_of(f)) {
-            Some(l) => Some(Question::Permits(Removal::LoadAfterStore, l)),
-            None => None,
-        },
-        Rule::NewLoad => None,
+        (Rule::Forward, Event::Store { location, value }) => {
+            let load = Event::Load { location, value };
+            if_same(f, load, Question::Forwards(location))
+        }
+        (Rule::LoadAfterLoad, Event::Load { .. }) => if_same(f, e, Question::Nothing),
+        (Rule::StoreBeforeStore, Event::Store { location, .. }) => {
+            stores_to(f, location).then_some(Question::Nothing)
+        }
+        (Rule::StoreAfterLoad, Event::Load { location, value }) => {
+            let store = Event::Store { location, value };
+            if_same(
+                f,
+                store,
+                Question::Permits(Removal::StoreAfterLoad, location),
+            )
+        }
+        (Rule::LoadAfterStore, Event::Store { location, value }) => {
+            let load = Event::Load { location, value };
+            if_same(
+                f,
+                load,
+                Question::Permits(Removal::LoadAfterStore, location),
+            )
+        }
+        _ => None,
     }
 }
 

@@ -1,4 +1,4 @@
-ghost use Rattle.std.specs.Prelude.{◌≡◌, ◌≤◌, length};
+ghost use Rattle.std.specs.Prelude.{◌≤◌};
 
 use ordering::Removal;
 use trace::{Access, Event};
@@ -8,8 +8,7 @@ use trace::{Access, Event};
 pub struct Working {
     pub(crate) events: [Event; 48],
     pub(crate) len: usize,
-    ghost room: { length events ≡ 48 },
-    ghost ok: { len ≤ 48 },
+    ghost room: { len ≤ 48 },
 }
 
 /// A step as it is written: a rule's number, a place, and for rule 7 a location and a value.
@@ -19,6 +18,13 @@ pub struct Step {
     pub place: u8,
     pub location: u8,
     pub value: u8,
+}
+
+/// What a program has: values below `values`, and locations below `locations`.
+#[derive(Clone, Copy)]
+pub struct Ranges {
+    pub values: u8,
+    pub locations: u8,
 }
 
 /// The rules 1 to 7, in this order.

@@ -4,8 +4,8 @@ ghost use Rattle.ordering.specs.Meaning.{Meaning};
 ghost use Rattle.rewrite.specs.declared.working.Rule.TheVariants.{NewLoad};
 ghost use Rattle.rewrite.specs.Views.{left};
 
-use super::{ask, fits, rule_of};
-use crate::working::{Denied, Question, Rule, Step, Stopped, Working};
+use super::{ask, fits};
+use crate::working::{Denied, Question, Ranges, Rule, Step, Stopped, Working};
 use ordering::Model;
 use trace::{Event, same_word};
 
@@ -63,12 +63,11 @@ impl Working {
         model: &M,
         rule: Rule,
         step: Step,
-        v: u8,
-        l: u8,
+        ranges: Ranges,
     ) -> Result<(), Denied>
         requires number { rule_of step.rule ≡ Some rule }
         requires pairs { rule ≢ NewLoad }
-        ensures { Applied (M.meaning model.now) v l step (word self.old) result (word self.new) }
+        ensures { Applied (M.meaning model.now) ranges.values ranges.locations step (word self.old) result (word self.new) }
     {
         let p = step.place as usize;
         if step.location != 0 || step.value != 0 || p + 1 >= self.len {
@@ -90,12 +89,12 @@ impl Working {
     }
 
     // Rule 7: a new load.
-    fn put(&mut self, step: Step, v: u8, l: u8) -> Result<(), Denied>
+    fn put(&mut self, step: Step, ranges: Ranges) -> Result<(), Denied>
         requires { rule_of step.rule ≡ Some NewLoad }
-        ensures { (m : Meaning) → Applied m v l step (word self.old) result (word self.new) }
+        ensures { (m : Meaning) → Applied m ranges.values ranges.locations step (word self.old) result (word self.new) }
     {
         let p = step.place as usize;
-        if step.location >= l || step.value >= v || p > self.len {
+        if step.location >= ranges.locations || step.value >= ranges.values || p > self.len {
             return Err(Denied::Misfit);
         }
         if self.len == MOST {
@@ -113,35 +112,31 @@ impl Working {
     }
 
     // Takes one step, or says why not and leaves the word.
-    fn apply<M: Model>(&mut self, model: &M, step: Step, v: u8, l: u8) -> Result<(), Denied>
-        ensures { Applied (M.meaning model.now) v l step (word self.old) result (word self.new) }
+    fn apply<M: Model>(&mut self, model: &M, step: Step, ranges: Ranges) -> Result<(), Denied>
+        ensures { Applied (M.meaning model.now) ranges.values ranges.locations step (word self.old) result (word self.new) }
     {
-        match rule_of(step.rule) {
-            None => Err(Denied::Misfit),
-            Some(rule) => match rule {
-                Rule::NewLoad => self.put(step, v, l),
-                _ => self.pair(model, rule, step, v, l),
-            },
+        match Rule::try_from(step.rule)? {
+            Rule::NewLoad => self.put(step, ranges),
+            rule => self.pair(model, rule, step, ranges),
         }
     }
 }
 
 impl Working {
-    /// Takes the steps one after another, up to the first that is denied. Values are below `v`, and
-    /// locations below `l`.
+    /// Takes the steps one after another, up to the first that is denied. New loads are within the
+    /// ranges.
     pub fn replay<M: Model>(
         &mut self,
         model: &M,
         steps: &[Step],
-        v: u8,
-        l: u8,
+        ranges: Ranges,
     ) -> Result<(), Stopped>
-        ensures replayed { Replayed (M.meaning model.now) v l steps.now (word self.old) result (word self.new) }
+        ensures replayed { Replayed (M.meaning model.now) ranges.values ranges.locations steps.now (word self.old) result (word self.new) }
         ensures sure { StepsAreSure }
         ensures reach { ChainsReach (M.meaning model.now) }
     {
         for i in 0..steps.len() {
-            match self.apply(model, steps[i], v, l) {
+            match self.apply(model, steps[i], ranges) {
                 Ok(()) => {}
                 Err(why) => return Err(Stopped { step: i, why }),
             }

@@ -13,7 +13,7 @@ loop-i-init g c = none
 
 pub returns-in-Err : goal.returns-in-Err
 returns-in-Err g c = record {
-  replayed = stopped c.args.v c.args.l c.args.steps.now c.loop-i.i (word c.args.self.now) (word c.loop-i.self) _ c.loop-i.invariant (word c.apply.new.self) c.in-Err.why (omega arith) c.in-Err.ensures;
+  replayed = stopped c.args.ranges.values c.args.ranges.locations c.args.steps.now c.loop-i.i (word c.args.self.now) (word c.loop-i.self) _ c.loop-i.invariant (word c.apply.new.self) c.in-Err.why (omega arith) c.in-Err.ensures;
   sure = λ v l s w a b p q F G. fits_one F G;
   reach = λ v l ss w w' d. chain_reaches d;
 }
@@ -21,11 +21,11 @@ returns-in-Err g c = record {
 pub loop-i-preserved : goal.loop-i-preserved
 loop-i-preserved g c =
     let (t, n) = c.in-Ok.ensures in
-    went_on c.args.v c.args.l c.args.steps.now c.loop-i.i (word c.args.self.now) (word c.loop-i.self) _ c.loop-i.invariant (word c.apply.new.self) (omega arith) t n
+    went_on c.args.ranges.values c.args.ranges.locations c.args.steps.now c.loop-i.i (word c.args.self.now) (word c.loop-i.self) _ c.loop-i.invariant (word c.apply.new.self) (omega arith) t n
 
 pub returns : goal.returns
 returns g c = record {
-  replayed = ended c.args.v c.args.l c.args.steps.now c.loop-i.i (word c.args.self.now) (word c.loop-i.self) zero c.loop-i.invariant (omega arith);
+  replayed = ended c.args.ranges.values c.args.ranges.locations c.args.steps.now c.loop-i.i (word c.args.self.now) (word c.loop-i.self) zero c.loop-i.invariant (omega arith);
   sure = λ v l s w a b p q F G. fits_one F G;
   reach = λ v l ss w w' d. chain_reaches d;
 }

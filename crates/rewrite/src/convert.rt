@@ -1,0 +1,50 @@
+ghost use Rattle.std.specs.Prelude.{◌≡◌, ok_or};
+ghost use Rattle.rewrite.specs.declared.working.Denied.TheVariants.{Misfit};
+ghost use Rattle.rewrite.specs.Refused.{cause_of, refusal_of};
+ghost use Rattle.rewrite.specs.Steps.{rule_of};
+
+use crate::working::{Denied, Rule, Stopped};
+use trace::{Cause, Refusal};
+
+// the rule that a number stands for
+impl TryFrom<u8> for Rule {
+    type Error = Denied;
+
+    ghost try_from_gives = { λ number r. r ≡ ok_or (rule_of number) Misfit };
+
+    fn try_from(number: u8) -> Result<Rule, Denied> {
+        match number {
+            1 => Ok(Rule::Swap),
+            2 => Ok(Rule::Forward),
+            3 => Ok(Rule::LoadAfterLoad),
+            4 => Ok(Rule::StoreBeforeStore),
+            5 => Ok(Rule::StoreAfterLoad),
+            6 => Ok(Rule::LoadAfterStore),
+            7 => Ok(Rule::NewLoad),
+            _ => Err(Denied::Misfit),
+        }
+    }
+}
+
+impl From<Denied> for Cause {
+    ghost from_gives = { λ why r. r ≡ cause_of why };
+
+    fn from(why: Denied) -> Cause {
+        match why {
+            Denied::Misfit => Cause::Misfit,
+            Denied::Forbidden => Cause::Forbidden,
+            Denied::Overlong => Cause::Overlong,
+        }
+    }
+}
+
+impl From<Stopped> for Refusal {
+    ghost from_gives = { λ stopped r. r ≡ refusal_of stopped };
+
+    fn from(stopped: Stopped) -> Refusal {
+        Refusal {
+            cause: stopped.why.into(),
+            place: stopped.step,
+        }
+    }
+}
