@@ -1,6 +1,5 @@
 -- The causes against a hand-in that was read, from what the runs showed.
-use Rattle.std.proofs.Common.{◌≡◌, ◌-◌, ◌≤◌, true, false, ◌⊎◌, take, Err, Result, sym, ◌∙◌, subst, inl, inr, arith}
-use borrow.Rule.Slice.PartMut.{mid_of}
+use Rattle.std.proofs.Common.{◌≡◌, ◌≤◌, true, false, ◌⊎◌, take, Err, Result, sym, ◌∙◌, subst, inl, inr, arith}
 use Rattle.std.proofs.lemmas.Bool.{both_ways}
 use Rattle.trace.specs.declared.refusal.Refusal.{Refusal}
 use Rattle.trace.specs.declared.refusal.Cause.TheVariants.{NoSuchRun, IdleRun, StartRegisters}
@@ -18,7 +17,6 @@ use Rattle.judging.specs.declared.performed.Performed.{Performed}
 use Rattle.judging.specs.Performed.{Performs}
 use Rattle.judging.specs.Judged.{Settled, Decided, no_run, idle_run, apart, settled}
 use Rattle.judging.proofs.Pairs.{same_sizes}
-use Rattle.judging.proofs.Settling.{front}
 
 module _ (m : Meaning) (p : Pair) (h : HandIn) where
   pub no_replacement : count (sizes_of p.replacement) (program_of p.replacement) ≤ h.replacement → Decided m (meant p) (derivation h) (Err (refusal NoSuchRun 0))
@@ -43,8 +41,8 @@ module _ (m : Meaning) (p : Pair) (h : HandIn) where
       found_apart n = apart (W.number, G.number) (sym W.idle ∙ wi, sym G.idle ∙ gi) (λ e. n (G.start ∙ e ∙ sym W.start))
 
       pub found_settled : held g.start ≡ held w.start → (r : Result (Unit {0}) Refusal)
-          → Settled m p.original.body.limits.values p.original.body.limits.locations (mid_of 0 (h.count - 0) h.steps) (take g.length g.events) (take w.length w.events) (held g.end) (held w.end) r
+          → Settled m p.original.body.limits.values p.original.body.limits.locations (take h.count h.steps) (take g.length g.events) (take w.length w.events) (held g.end) (held w.end) r
           → Decided m (meant p) (derivation h) r
       found_settled e r s =
           settled (W.number, G.number) (sym W.idle ∙ wi, sym G.idle ∙ gi) (sym G.start ∙ e ∙ W.start)
-          (rw (← G.word, ← W.word, ← G.end, ← W.end, ← front h.count h.steps) s)
+          (rw (← G.word, ← W.word, ← G.end, ← W.end) s)

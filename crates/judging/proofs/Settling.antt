@@ -1,15 +1,14 @@
 -- A hand-in that is settled is valid, and the other way round; and there is one answer.
-use Rattle.std.proofs.Common.{◌≡◌, ℕ, ◌-◌, ◌≤◌, List, take, Ok, Err, Result, sym, refl, ap, ◌∙◌, subst, arith, length-take}
-use borrow.Rule.Slice.PartMut.{mid_of}
+use Rattle.std.proofs.Common.{◌≡◌, ℕ, List, take, Ok, Err, Result, sym, refl, ap, ◌∙◌, subst, arith, length-take}
 use Rattle.std.proofs.lemmas.List.{take_all}
 use Rattle.trace.specs.declared.refusal.Refusal.{Refusal}
-use Rattle.trace.specs.declared.refusal.Cause.{Cause}
 use Rattle.trace.specs.declared.refusal.Cause.TheVariants.{Ending}
 use Rattle.trace.specs.Words.{Word, Registers}
 use Rattle.ordering.specs.Meaning.{Meaning}
 use Rattle.rewrite.specs.declared.working.Step.{Step}
 use Rattle.rewrite.specs.declared.working.Stopped.{Stopped}
 use Rattle.rewrite.specs.Steps.{Chain, Replayed}
+use Rattle.rewrite.specs.Refused.{refusal_of}
 use Rattle.snippet.specs.Parse.{refusal}
 use Rattle.rewrite.proofs.Reach.{chain_one, stopped_one}
 use Rattle.snippet.proofs.Inverse.{no_ok, ok_inj}
@@ -18,8 +17,9 @@ use Rattle.handins.specs.Encoded.{Derivation}
 use Rattle.handins.specs.File.{derivation_at}
 use Rattle.handins.proofs.Laws.{sound, complete}
 use Rattle.snippet.specs.Encode.{Bytes}
+use Rattle.judging.specs.declared.performed.Performed.{Performed}
 use Rattle.judging.specs.Valid.{Valid, Names, Exactly}
-use Rattle.judging.specs.Judged.{cause_of, Settled, stopped, elsewhere, reached, Decided, no_run, idle_run, apart, settled, Judged, unread, declined, accepted, OneAnswer}
+use Rattle.judging.specs.Judged.{Settled, stopped, elsewhere, reached, Decided, no_run, idle_run, apart, settled, Judged, unread, declined, accepted, OneAnswer}
 
 module _ {m : Meaning} {v l : ℕ} {ss : List Step} {a b : Word} {s t : Registers} where
   -- steps that lead to b are not stopped, and lead nowhere else
@@ -30,16 +30,15 @@ module _ {m : Meaning} {v l : ℕ} {ss : List Step} {a b : Word} {s t : Register
   settles : Settled m v l ss a b s t (Ok tt) → Chain m v l ss a b × (s ≡ t)
   settles (reached c q) = (c, q)
 
--- what the code's slices hold
-pub front : {A : Type 0} (n : ℕ) (xs : List A) → mid_of 0 (n - 0) xs ≡ take n xs
-front n xs = ap (λ (k : ℕ). take k xs) {x = n - 0} {y = n} (omega arith)
-
-pub start_word : {w : Word} (n : ℕ) (xs : Word) → n ≤ 48 → w ≡ take 48 (mid_of 0 (n - 0) xs) → w ≡ take n xs
-start_word n xs h e = e ∙ ap (take 48) (front n xs) ∙ take_all 48 (take n xs) (simp length-take (omega arith))
+-- the steps begin at the whole word of a run
+pub start_word : {w w' : Word} (p : Performed) → w' ≡ take p.length p.events → w ≡ take 48 w' → w ≡ take p.length p.events
+start_word p e f =
+    let few = p.few in
+    f ∙ ap (take 48) e ∙ take_all 48 (take p.length p.events) (simp length-take (omega arith))
 
 module _ {m : Meaning} {v l : ℕ} {ss : List Step} {a b : Word} {s t : Registers} where
-  pub stopped_at : (e : Stopped) (w a' : Word) → a' ≡ a → (k : Cause) → k ≡ cause_of e.why → Replayed m v l ss a' (Err e) w → Settled m v l ss a b s t (Err (refusal k e.step))
-  stopped_at e w a' p k q r = rw q (stopped e (subst (λ (x : Word). Replayed m v l ss x (Err e) w) p r))
+  pub stopped_at : {a' w : Word} (e : Stopped) → a' ≡ a → Replayed m v l ss a' (Err e) w → Settled m v l ss a b s t (Err (refusal_of e))
+  stopped_at {w = w} e p r = stopped e (subst (λ (x : Word). Replayed m v l ss x (Err e) w) p r)
 
   pub reached_at : {a' b' : Word} → a' ≡ a → b' ≡ b → Chain m v l ss a' b' → s ≡ t → Settled m v l ss a b s t (Ok tt)
   reached_at p q c e = reached (rw (← p, ← q) c) e
@@ -73,7 +72,7 @@ module _ {m : Meaning} {P : Program} {bs : List ℕ} where
 -- there is one answer
 module _ {m : Meaning} {v l : ℕ} {ss : List Step} {a b : Word} {s t : Registers} where
   settled_one : {q r : Result (Unit {0}) Refusal} → Settled m v l ss a b s t q → Settled m v l ss a b s t r → q ≡ r
-  settled_one (stopped {w} e x) (stopped {w = w'} e' x') = ap (λ (z : Stopped). Err (refusal (cause_of z.why) z.step)) (stopped_one e e' w w' x x')
+  settled_one (stopped {w} e x) (stopped {w = w'} e' x') = ap (λ (z : Stopped). Err (refusal_of z)) (stopped_one e e' w w' x x')
   settled_one (stopped e x) (elsewhere {w} c n) = absurd (x.3 w c)
   settled_one (stopped e x) (reached c p) = absurd (x.3 b c)
   settled_one (elsewhere {w} c n) (stopped e x) = absurd (x.3 w c)

@@ -1,31 +1,23 @@
 -- What is answered to a hand-in: the causes against it, in their order.
 use Rattle.std.specs.Prelude.{◌≡◌, ℕ, ◌<◌, false, List, Ok, Err, Result}
 use Rattle.trace.specs.declared.refusal.Refusal.{Refusal}
-use Rattle.trace.specs.declared.refusal.Cause.{Cause}
-use Rattle.trace.specs.declared.refusal.Cause.TheVariants.{NoSuchRun, IdleRun, StartRegisters, Misfit, Forbidden, Overlong, Ending}
+use Rattle.trace.specs.declared.refusal.Cause.TheVariants.{NoSuchRun, IdleRun, StartRegisters, Ending}
 use Rattle.trace.specs.Words.{Word, Registers}
 use Rattle.ordering.specs.Meaning.{Meaning}
 use Rattle.rewrite.specs.declared.working.Step.{Step}
 use Rattle.rewrite.specs.declared.working.Stopped.{Stopped}
-use Rattle.rewrite.specs.declared.working.Denied.{Denied}
-use Rattle.rewrite.specs.declared.working.Denied.TheVariants as denied
 use Rattle.rewrite.specs.Steps.{Chain, Replayed}
+use Rattle.rewrite.specs.Refused.{refusal_of}
 use Rattle.snippet.specs.Parse.{refusal}
 use Rattle.pairs.specs.Program.{Program}
 use Rattle.runs.specs.Runs.{start_of, end_of, word_of, idle, count}
 use Rattle.handins.specs.Encoded.{Derivation}
 use Rattle.handins.specs.File.{derivation_at}
 
--- The cause for which a step is denied: 13, 14 or 15.
-abbrev pub cause_of : Denied → Cause
-cause_of denied.Misfit = Misfit
-cause_of denied.Forbidden = Forbidden
-cause_of denied.Overlong = Overlong
-
 -- What comes of steps on the word a with end registers s, which should lead to the word b with end registers t.
 pub data Settled (m : Meaning) (v l : ℕ) (ss : List Step) (a b : Word) (s t : Registers) : Result (Unit {0}) Refusal → Type 0 where
   -- 13, 14, 15: the first step that is denied
-  stopped : {w : Word} (e : Stopped) → Replayed m v l ss a (Err e) w → Settled m v l ss a b s t (Err (refusal (cause_of e.why) e.step))
+  stopped : {w : Word} (e : Stopped) → Replayed m v l ss a (Err e) w → Settled m v l ss a b s t (Err (refusal_of e))
   -- 16: all steps are taken, and lead elsewhere
   elsewhere : {w : Word} → Chain m v l ss a w → ((w ≡ b) × (s ≡ t) → ⊥) → Settled m v l ss a b s t (Err (refusal Ending 0))
   reached : Chain m v l ss a b → s ≡ t → Settled m v l ss a b s t (Ok tt)

@@ -11,7 +11,6 @@ use Rattle.judging.specs.declared.performed.Performed.{Performed}
 
 pub record Performs (m : Sizes) (b : Block) (k : ℕ) (p : Performed) : Type 0 where
   pub number : k < count m b
-  pub few : p.length ≤ 48
   pub word : take p.length p.events ≡ word_of m b k
   pub start : held p.start ≡ start_of m k
   pub end : held p.end ≡ end_of m b k

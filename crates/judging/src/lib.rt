@@ -3,6 +3,7 @@
 #![tactic(auto)]
 
 mod decide;
+mod perform;
 mod performed;
 
 pub use decide::judge;

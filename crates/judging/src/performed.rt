@@ -1,3 +1,5 @@
+ghost use Rattle.std.specs.Prelude.{◌≤◌};
+
 use runs::Registers;
 use trace::Event;
 
@@ -9,4 +11,5 @@ pub(crate) struct Performed {
     pub(crate) start: Registers,
     pub(crate) end: Registers,
     pub(crate) idle: bool,
+    ghost few: { length ≤ 48 },
 }
