@@ -1,5 +1,5 @@
 -- What a case holds after the calls made since its opening.
-use Rattle.std.specs.Prelude.{◌≡◌, ℕ, true, List, Ok, Err, Option, Result}
+use Rattle.std.specs.Prelude.{◌≡◌, ℕ, true, List, [], ◌∷◌, ◌++◌, Ok, Err, Option, Result}
 use Rattle.trace.specs.declared.refusal.Refusal.{Refusal}
 use Rattle.ordering.specs.Meaning.{Meaning}
 use Rattle.marks.specs.Marks.{marked, missing, Lowest, count_below}
@@ -24,6 +24,13 @@ pub record Follows {M : Type 0} (meaning : M → Meaning) (c : Case M) (calls : 
 pub record Stands {M : Type 0} (meaning : M → Meaning) (c : Case M) (calls : List Call) : Type 0 where
   pub verdict : (v : Option ℕ) → Verdict c v → VerdictPromise (Unobservable (meaning c.model) (meant c.pair)) (meaning c.model) (meant c.pair) calls v
   pub count : (n a : ℕ) → Counted c n a → CountPromise (meaning c.model) (meant c.pair) calls n a
+
+-- A call takes a case from one moment to the next: whatever calls it followed before, it follows them with this
+-- one at their end, and the whole promise stands then.
+abbrev pub GoesOn : {M : Type 0} → (M → Meaning) → Case M → Call → Case M → Type 0
+GoesOn meaning before call after =
+    (calls : List Call) → Follows meaning before calls
+    → Follows meaning after (calls ++ call ∷ []) × Stands meaning after (calls ++ call ∷ [])
 
 -- Pair, model and marks are as they were.
 pub record Same {M : Type 0} (before after : Case M) : Type 0 where

@@ -1,4 +1,4 @@
-ghost use Rattle.std.specs.Prelude.{◌≡◌, ℕ, ◌<◌, nat_lt};
+ghost use Rattle.std.specs.Prelude.{◌≡◌, ℕ, ◌<◌};
 ghost use Rattle.snippet.specs.Meant.{sizes_of, program_of};
 ghost use Rattle.runs.specs.Runs.{idle};
 ghost use Rattle.marks.specs.Marks.{marked};
@@ -22,27 +22,14 @@ fn is_idle(snippet: &Snippet, number: u16) -> bool
     }
 }
 
-// All runs.
-fn all_runs(snippet: &Snippet) -> Marks
-    ensures { (k : ℕ) → marked result k ≡ nat_lt k snippet.now.runs }
-{
-    let mut all = Marks::none();
-    for k in 0..snippet.runs {
-        all.add(k);
-    }
-    all
-}
-
-// The runs that are not idle. They are all runs if none can be idle, and then none is carried out.
+// The runs that are not idle. Where none can be idle, none is carried out.
 pub(crate) fn active_runs(snippet: &Snippet) -> Marks
     ensures { (k : ℕ) → marked result k ≡ is_active (sizes_of snippet.now) (program_of snippet.now) k }
 {
-    if never_idle(snippet) {
-        return all_runs(snippet);
-    }
+    let all = never_idle(snippet);
     let mut active = Marks::none();
     for k in 0..snippet.runs {
-        if !is_idle(snippet, k) {
+        if all || !is_idle(snippet, k) {
             active.add(k);
         }
     }

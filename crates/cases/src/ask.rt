@@ -1,8 +1,8 @@
-ghost use Rattle.std.specs.Prelude.{List, [], ◌∷◌, ◌++◌};
+ghost use Rattle.std.specs.Prelude.{List};
 ghost use Rattle.pairs.specs.Meant.{meant};
 ghost use Rattle.cases.specs.History.{Call as Made, verdict as asked, count as counted};
 ghost use Rattle.cases.specs.Promise.{VerdictPromise, CountPromise, Unobservable};
-ghost use Rattle.cases.specs.Standing.{Verdict, Counted, Follows, Stands};
+ghost use Rattle.cases.specs.Standing.{Verdict, Counted, Follows, GoesOn};
 
 use crate::case::Case;
 use crate::tally::Tally;
@@ -14,8 +14,7 @@ impl<M: Model> Case<M> {
     pub fn verdict(&self) -> Option<u16>
         ensures marks { Verdict self.now result }
         ensures promise { (h : List Made) → Follows M.meaning self.now h → VerdictPromise (Unobservable (M.meaning self.now.model) (meant self.now.pair)) (M.meaning self.now.model) (meant self.now.pair) h result }
-        ensures follows { (h : List Made) → Follows M.meaning self.now h → Follows M.meaning self.now (h ++ asked ∷ []) }
-        ensures stands { (h : List Made) → Follows M.meaning self.now h → Stands M.meaning self.now (h ++ asked ∷ []) }
+        ensures goes_on { GoesOn M.meaning self.now asked self.now }
     {
         self.active.first_missing(&self.matched)
     }
@@ -24,8 +23,7 @@ impl<M: Model> Case<M> {
     pub fn count(&self) -> Tally
         ensures marks { Counted self.now result.matched result.active }
         ensures promise { (h : List Made) → Follows M.meaning self.now h → CountPromise (M.meaning self.now.model) (meant self.now.pair) h result.matched result.active }
-        ensures follows { (h : List Made) → Follows M.meaning self.now h → Follows M.meaning self.now (h ++ counted ∷ []) }
-        ensures stands { (h : List Made) → Follows M.meaning self.now h → Stands M.meaning self.now (h ++ counted ∷ []) }
+        ensures goes_on { GoesOn M.meaning self.now counted self.now }
     {
         Tally {
             matched: self.matched.count(),

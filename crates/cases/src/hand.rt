@@ -1,8 +1,8 @@
-ghost use Rattle.std.specs.Prelude.{◌≡◌, List, [], ◌∷◌, ◌++◌};
+ghost use Rattle.std.specs.Prelude.{◌≡◌, []};
 ghost use Rattle.pairs.specs.Meant.{meant};
-ghost use Rattle.cases.specs.History.{Call as Made, hand_in};
+ghost use Rattle.cases.specs.History.{hand_in};
 ghost use Rattle.cases.specs.Promise.{HandInAnswer};
-ghost use Rattle.cases.specs.Standing.{Follows, Stands, Unchanged};
+ghost use Rattle.cases.specs.Standing.{Follows, Stands, GoesOn, Unchanged};
 
 use crate::active::active_runs;
 use crate::case::Case;
@@ -36,15 +36,10 @@ impl<M: Model> Case<M> {
         ensures model { self.new.model ≡ self.old.model }
         ensures answer { HandInAnswer (M.meaning self.old.model) (meant self.old.pair) bytes.now result }
         ensures declined { Unchanged result self.old self.new }
-        ensures follows { (h : List Made) → Follows M.meaning self.old h → Follows M.meaning self.new (h ++ hand_in bytes.now ∷ []) }
-        ensures promise { (h : List Made) → Follows M.meaning self.old h → Stands M.meaning self.new (h ++ hand_in bytes.now ∷ []) }
+        ensures goes_on { GoesOn M.meaning self.old (hand_in bytes.now) self.new }
     {
-        match judge(&self.pair, &self.model, bytes) {
-            Ok(run) => {
-                self.matched.add(run);
-                Ok(())
-            }
-            Err(refusal) => Err(refusal),
-        }
+        let run = judge(&self.pair, &self.model, bytes)?;
+        self.matched.add(run);
+        Ok(())
     }
 }

@@ -1,7 +1,6 @@
-ghost use Rattle.std.specs.Prelude.{◌≡◌, List, [], ◌∷◌, ◌++◌, map, slice_set};
+ghost use Rattle.std.specs.Prelude.{◌≡◌, map, slice_set};
 ghost use Rattle.pairs.specs.Meant.{meant};
-ghost use Rattle.cases.specs.History.{Call as Made};
-ghost use Rattle.cases.specs.Standing.{Follows, Verdict, Counted};
+ghost use Rattle.cases.specs.Standing.{Verdict, Counted, GoesOn};
 ghost use Rattle.cases.specs.Played.{call_of, Played};
 
 use crate::case::Case;
@@ -26,7 +25,7 @@ fn standing<M: Model>(case: &Case<M>) -> Standing
 fn make<M: Model>(case: &mut Case<M>, call: Call<'_>)
     ensures pair { case.new.pair ≡ case.old.pair }
     ensures model { case.new.model ≡ case.old.model }
-    ensures follows { (h : List Made) → Follows M.meaning case.old h → Follows M.meaning case.new (h ++ call_of call.entry ∷ []) }
+    ensures goes_on { GoesOn M.meaning case.old (call_of call.entry) case.new }
 {
     match call {
         Call::HandIn(bytes) => {
@@ -59,12 +58,12 @@ pub fn play<M: Model + Drop, S: Sets>(
     calls: &[Call<'_>],
     standings: &mut [Standing],
 ) -> Standing
-    ensures { Played S.Sets.sets S.Sets.words (M.meaning model) (meant pair) (map call_of calls.now) standings.old standings.new result }
+    ensures { Played S.sets S.words (M.meaning model) (meant pair) (map call_of calls.now) standings.old standings.new result }
 {
     let mut case = Case::open(pair, model);
-    for i in 0..calls.len() {
+    for (i, call) in calls.iter().enumerate() {
         note(standings, i, standing(&case));
-        make(&mut case, calls[i]);
+        make(&mut case, *call);
     }
     let last = standing(&case);
     note(standings, calls.len(), last);

@@ -12,17 +12,19 @@ use ordering::Model;
 impl<M: Model + Drop> Case<M> {
     /// Ends the case. A sealed case takes no hand-in, and only a sealed case gives a report.
     pub fn seal(self) -> Sealed
-        ensures model { result.model ≡ M.number }
-        ensures count { Counted self result.matched result.active }
-        ensures verdict { Verdict self result.lowest }
-        ensures promise { (h : List Made) → Follows M.meaning self h → VerdictPromise (Unobservable (M.meaning self.model) (meant self.pair)) (M.meaning self.model) (meant self.pair) h result.lowest × CountPromise (M.meaning self.model) (meant self.pair) h result.matched result.active }
+        ensures model { result.report.model ≡ M.number }
+        ensures count { Counted self result.report.matched result.report.active }
+        ensures verdict { Verdict self result.report.lowest }
+        ensures promise { (h : List Made) → Follows M.meaning self h → VerdictPromise (Unobservable (M.meaning self.model) (meant self.pair)) (M.meaning self.model) (meant self.pair) h result.report.lowest × CountPromise (M.meaning self.model) (meant self.pair) h result.report.matched result.report.active }
     {
         let tally = self.count();
         Sealed {
-            model: self.model.model_number(),
-            active: tally.active,
-            matched: tally.matched,
-            lowest: self.verdict(),
+            report: Report {
+                model: self.model.model_number(),
+                active: tally.active,
+                matched: tally.matched,
+                lowest: self.verdict(),
+            },
         }
     }
 }
@@ -30,16 +32,8 @@ impl<M: Model + Drop> Case<M> {
 impl Sealed {
     /// The report of the case that was sealed.
     pub fn report(&self) -> Report
-        ensures model { result.model ≡ self.now.model }
-        ensures active { result.active ≡ self.now.active }
-        ensures matched { result.matched ≡ self.now.matched }
-        ensures lowest { result.lowest ≡ self.now.lowest }
+        ensures { result ≡ self.now.report }
     {
-        Report {
-            model: self.model,
-            active: self.active,
-            matched: self.matched,
-            lowest: self.lowest,
-        }
+        self.report
     }
 }

@@ -28,7 +28,7 @@ loop-i-preserved g c =
     let here = promised g.S.Sets.sets g.S.Sets.words g.M.Model.meaning case (take i cs) s law inv.2 c.standing.ensures.verdict c.standing.ensures.count p y inv.0 inv.1 in (
       c.make.ensures.pair ∙ inv.0,
       c.make.ensures.model ∙ inv.1,
-      subst (λ (h : List history.Call). Follows g.M.Model.meaning c.make.new.case h) (sym (calls_more c.args.calls.now i _ (omega arith))) (c.make.ensures.follows (take i cs) inv.2),
+      subst (λ (h : List history.Call). Follows g.M.Model.meaning c.make.new.case h) (sym (calls_more c.args.calls.now i _ (omega arith))) ((c.make.ensures.goes_on (take i cs) inv.2).0),
       (λ j d h l. noted g.S.Sets.sets g.S.Sets.words (g.M.Model.meaning y) (meant p) cs i c.loop-i.standings c.note.new.standings s c.note.ensures here inv.3 j d h (omega arith)),
       (λ j d h. left g.S.Sets.sets g.S.Sets.words (g.M.Model.meaning y) (meant p) cs i c.loop-i.standings c.note.new.standings s c.note.ensures c.args.standings.now inv.4 j d (omega arith)),
     )

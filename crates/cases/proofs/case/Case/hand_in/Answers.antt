@@ -1,44 +1,39 @@
-use Rattle.std.proofs.Common.{List, refl}
+use Rattle.std.proofs.Common.{refl}
+use Rattle.std.proofs.lemmas.Result.{err_from_is_err_and}
 use Rattle.ordering.proofs.Laws.{lawful}
-use Rattle.cases.specs.History.{Call}
-use Rattle.cases.specs.Standing.{Follows}
+use Rattle.marks.specs.Marks.{marked}
 use Rattle.judging.proofs.Settling.{names_one}
+use Rattle.cases.specs.History.{hand_in}
 use Rattle.cases.proofs.Histories.{marks_accepted, marks_refused}
 use Rattle.cases.proofs.Promises.{named_few}
-use Rattle.marks.specs.Marks.{marked}
-use Rattle.cases.proofs.Cases.{marking, following, standing}
+use Rattle.cases.proofs.Cases.{going_on}
 use Rattle.cases.proofs.case.Case.hand_in.Goals as goal
 
-pub returns-in-Ok : goal.returns-in-Ok
-returns-in-Ok g c =
-    let s = c.args.self.now in
-    let met = g.met.M.Model in
-    let m = s.model in
-    let law = lawful g.M.Model.meaning met.within met.together met.five met.six m in
-    let n = c.in-Ok.ensures.exactly in
-    let run = c.in-Ok.run' in
-    let step = λ (h : List Call) (f : Follows g.M.Model.meaning s h). following g.M.Model.meaning _ (marks_accepted c.args.bytes.now run (marked c.add.new.self) n (λ k q. names_one q n) (c.add.ensures.added (named_few s.pair run n)) h (marking g.M.Model.meaning s f)) in
-    record {
-      pair = refl;
-      model = refl;
-      answer = (run, c.in-Ok.ensures.judged, n);
-      declined = tt;
-      follows = step;
-      promise = λ h f. standing g.M.Model.meaning _ law (step h f);
-    }
+pub returns-clause-answer : goal.returns-clause-answer
+returns-clause-answer g c = (c.in_ok-run.run', c.in_ok-run.ensures.judged, c.in_ok-run.ensures.exactly)
 
-pub returns-in-Err : goal.returns-in-Err
-returns-in-Err g c =
+pub returns-clause-goes_on : goal.returns-clause-goes_on
+returns-clause-goes_on g c =
     let s = c.args.self.now in
     let met = g.met.M.Model in
-    let m = s.model in
-    let law = lawful g.M.Model.meaning met.within met.together met.five met.six m in
-    let n = c.in-Err.ensures.exactly in
-    record {
-      pair = refl;
-      model = refl;
-      answer = (c.in-Err.ensures.judged, n);
-      declined = record { pair = refl; model = refl; active = refl; matched = refl };
-      follows = λ h f. following g.M.Model.meaning _ (marks_refused c.args.bytes.now n h (marking g.M.Model.meaning s f));
-      promise = λ h f. standing g.M.Model.meaning _ law (following g.M.Model.meaning _ (marks_refused c.args.bytes.now n h (marking g.M.Model.meaning s f)));
-    }
+    let law = lawful g.M.Model.meaning met.within met.together met.five met.six in
+    let n = c.in_ok-run.ensures.exactly in
+    let run = c.in_ok-run.run' in
+    going_on g.M.Model.meaning law s _ (hand_in c.args.bytes.now)
+    (marks_accepted c.args.bytes.now run (marked c.add.new.self) n (λ k q. names_one q n) (c.add.ensures.added (named_few s.pair run n)))
+
+pub returns-in_err-run-clause-answer : goal.returns-in_err-run-clause-answer
+returns-in_err-run-clause-answer g c =
+    let p = err_from_is_err_and c.from_residual.result c.from_residual.ensures.1 in
+    rw (p.1, p.2) (c.in_err-run.ensures.judged, c.in_err-run.ensures.exactly)
+
+pub returns-in_err-run-clause-declined : goal.returns-in_err-run-clause-declined
+returns-in_err-run-clause-declined g c =
+    let p = err_from_is_err_and c.from_residual.result c.from_residual.ensures.1 in
+    rw p.1 (record { pair = refl; model = refl; active = refl; matched = refl })
+
+pub returns-in_err-run-clause-goes_on : goal.returns-in_err-run-clause-goes_on
+returns-in_err-run-clause-goes_on g c =
+    let met = g.met.M.Model in
+    let law = lawful g.M.Model.meaning met.within met.together met.five met.six in
+    going_on g.M.Model.meaning law c.args.self.now _ (hand_in c.args.bytes.now) (marks_refused c.args.bytes.now c.in_err-run.ensures.exactly)
