@@ -1,2 +1,3 @@
-pub mod Steps
 mod Laws
+pub mod Steps
+pub mod Taking
