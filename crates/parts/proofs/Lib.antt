@@ -1,3 +1,2 @@
-mod Laws
 pub mod Steps
-pub mod Taking
+mod Laws

@@ -1,8 +1,8 @@
-ghost use Rattle.std.specs.Prelude.{◌≡◌, take, ⊤};
-ghost use Rattle.std.specs.Iterator.{MakesProgress, YieldsFirstBy, item_count};
+ghost use Rattle.std.specs.Prelude.{◌≡◌, take};
+ghost use Rattle.std.specs.Iterator.{item_count};
 ghost use Rattle.parts.specs.Cut.{part_length, parts_of};
 ghost use Rattle.parts.specs.Law.{Rejoins};
-ghost use Rattle.parts.specs.Left.{left, piece_of, Takes};
+ghost use Rattle.parts.specs.Left.{left, Takes};
 
 use crate::cutter::{Parts, Stage};
 use crate::part::Part;
@@ -44,17 +44,12 @@ impl<'a> Parts<'a> {
 impl<'a> Iterator for Parts<'a> {
     type Item = Part<'a>;
 
-    ghost next_gives = { YieldsFirstBy piece_of left };
+    ghost next_gives = { λ before part after. Takes before part after × (after.stream ≡ before.stream) };
 
     ghost remaining = { item_count left };
 
     /// The next part, if there is one.
-    fn next(&mut self) -> Option<Part<'a>>
-        ensures steps { YieldsFirstBy piece_of left self.old result self.new }
-        ensures goes { MakesProgress (λ _. ⊤) (item_count left) self.old result self.new }
-        ensures takes { Takes self.old result self.new }
-        ensures stream { self.new.stream ≡ self.old.stream }
-    {
+    fn next(&mut self) -> Option<Part<'a>> {
         let at = self.at;
         let stream = self.stream;
         match self.stage {
