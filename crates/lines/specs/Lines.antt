@@ -5,7 +5,7 @@ use Rattle.trace.specs.declared.refusal.Refusal.{Refusal}
 use Rattle.trace.specs.declared.refusal.Cause.TheVariants.{NoRoom}
 use Rattle.trace.specs.Refusals.{number_of}
 use Rattle.lines.specs.declared.line.Line.{Line}
-use Rattle.lines.specs.declared.line.Line.TheVariants.{Accepted, Declined}
+use Rattle.lines.specs.declared.line.Line.TheVariants.{Answer}
 use Rattle.lines.specs.declared.line.Line.TheVariants as lines
 use Rattle.lines.specs.declared.line.Report.{Report}
 
@@ -29,8 +29,8 @@ report_numbers r = r.model ∷ r.active ∷ r.matched ∷ flag_of r.lowest ∷ r
 
 -- The numbers of a line.
 abbrev pub numbers_of : Line → List ℕ
-numbers_of Accepted = answer_numbers 0 0
-numbers_of (Declined refusal) = answer_numbers (number_of refusal.cause) refusal.place
+numbers_of (Answer (Ok u)) = answer_numbers 0 0
+numbers_of (Answer (Err refusal)) = answer_numbers (number_of refusal.cause) refusal.place
 numbers_of (lines.Report report) = report_numbers report
 
 -- The bytes of a line: its numbers in decimal, a space between two, and a line feed.
