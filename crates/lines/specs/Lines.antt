@@ -1,6 +1,5 @@
 -- What a line says, its bytes, and how they are read.
-use Rattle.std.specs.Prelude.{◌≡◌, ℕ, ◌+◌, ◌-◌, ◌*◌, ◌≤◌, cond, List, [], ◌∷◌, ◌++◌, length, Some, None, Ok, Err, decimal, Option, Result, ◌==◌, nat_lt}
-use Rattle.std.proofs.lemmas.List.Edits.{sets}
+use Rattle.std.specs.Prelude.{ℕ, ◌+◌, ◌-◌, ◌*◌, cond, List, [], ◌∷◌, ◌++◌, length, Some, None, Ok, Err, decimal, Option, Result, ◌==◌, nat_lt}
 use Rattle.trace.specs.declared.refusal.Refusal.{Refusal}
 use Rattle.trace.specs.declared.refusal.Cause.TheVariants.{NoRoom}
 use Rattle.trace.specs.Refusals.{number_of}
@@ -55,10 +54,3 @@ longest = 24
 -- A line of the given length is written where there is room for any line, and else declined.
 abbrev pub room : ℕ → ℕ → Result ℕ Refusal
 room there size = cond (nat_lt there longest) (Err (record { cause = NoRoom; place = 0 })) (Ok size)
-
--- The numbers of a line stand at the start of the bytes, and are read back from there.
-pub record Put (ns old new : List ℕ) (end : ℕ) : Type 0 where
-  pub size : end ≡ length (written ns)
-  pub bytes : new ≡ sets old 0 (written ns)
-  pub fits : length (written ns) ≤ longest
-  pub reads : read_line (written ns) ≡ ns
