@@ -1,11 +1,10 @@
 -- What a line says, its bytes, and how they are read.
-use Rattle.std.specs.Prelude.{◌≡◌, ℕ, ◌+◌, ◌-◌, ◌*◌, ◌≤◌, cond, List, [], ◌∷◌, ◌++◌, length, Some, None, Ok, Err, decimal, Option, Result, ◌==◌, nat_lt}
-use Rattle.std.proofs.lemmas.List.Edits.{sets}
+use Rattle.std.specs.Prelude.{ℕ, ◌+◌, ◌-◌, ◌*◌, cond, List, [], ◌∷◌, ◌++◌, length, Some, None, Ok, Err, decimal, Option, Result, ◌==◌, nat_lt}
 use Rattle.trace.specs.declared.refusal.Refusal.{Refusal}
 use Rattle.trace.specs.declared.refusal.Cause.TheVariants.{NoRoom}
 use Rattle.trace.specs.Refusals.{number_of}
 use Rattle.lines.specs.declared.line.Line.{Line}
-use Rattle.lines.specs.declared.line.Line.TheVariants.{Accepted, Declined}
+use Rattle.lines.specs.declared.line.Line.TheVariants.{Answer}
 use Rattle.lines.specs.declared.line.Line.TheVariants as lines
 use Rattle.lines.specs.declared.line.Report.{Report}
 
@@ -29,8 +28,8 @@ report_numbers r = r.model ∷ r.active ∷ r.matched ∷ flag_of r.lowest ∷ r
 
 -- The numbers of a line.
 abbrev pub numbers_of : Line → List ℕ
-numbers_of Accepted = answer_numbers 0 0
-numbers_of (Declined refusal) = answer_numbers (number_of refusal.cause) refusal.place
+numbers_of (Answer (Ok u)) = answer_numbers 0 0
+numbers_of (Answer (Err refusal)) = answer_numbers (number_of refusal.cause) refusal.place
 numbers_of (lines.Report report) = report_numbers report
 
 -- The bytes of a line: its numbers in decimal, a space between two, and a line feed.
@@ -55,10 +54,3 @@ longest = 24
 -- A line of the given length is written where there is room for any line, and else declined.
 abbrev pub room : ℕ → ℕ → Result ℕ Refusal
 room there size = cond (nat_lt there longest) (Err (record { cause = NoRoom; place = 0 })) (Ok size)
-
--- The numbers of a line stand at the start of the bytes, and are read back from there.
-pub record Put (ns old new : List ℕ) (end : ℕ) : Type 0 where
-  pub size : end ≡ length (written ns)
-  pub bytes : new ≡ sets old 0 (written ns)
-  pub fits : length (written ns) ≤ longest
-  pub reads : read_line (written ns) ≡ ns

@@ -10,10 +10,9 @@ pub struct Report {
     pub lowest: Option<u16>,
 }
 
-/// What one line says.
+/// What one line says: the answer to a file or a hand-in, or the report on a case.
 #[derive(Clone, Copy)]
 pub enum Line {
-    Accepted,
-    Declined(Refusal),
+    Answer(Result<(), Refusal>),
     Report(Report),
 }

@@ -1,108 +1,59 @@
-ghost use Rattle.std.specs.Prelude.{◌≡◌, ◌+◌, ◌<◌, ◌≤◌, [], ◌∷◌, ◌++◌, length, take, drop, if◌then◌else◌, Ok, Err, decimal, nat_lt, slice_set};
-ghost use Rattle.std.proofs.lemmas.List.Edits.{sets};
-ghost use Rattle.lines.specs.Lines.{answer_numbers, flag_of, run_of, report_numbers, numbers_of, written, read_line, longest, room, Put};
+ghost use Rattle.std.specs.Prelude.{◌≡◌, ◌+◌, ◌<◌, ◌≤◌, [], ◌∷◌, ◌++◌, length, take, drop, if◌then◌else◌, Ok, Err, decimal, nat_lt};
+ghost use Rattle.lines.specs.Lines.{numbers_of, written, read_line, longest, room};
 
 use crate::line::{Line, Report};
+use arrayvec::ArrayString;
+use itoa::Buffer;
 use trace::{Cause, Refusal};
 
 /// The most bytes that a line can have.
 const LONGEST: usize = 24;
 
-// Writes a byte, and gives the place after it.
-fn put_byte(out: &mut [u8], at: usize, byte: u8) -> usize
-    requires { at < length out.old }
-    ensures place { result ≡ at + 1 }
-    ensures bytes { out.new ≡ slice_set out.old at byte }
+// Appends a number and the character that ends it.
+fn push_number(text: &mut ArrayString<LONGEST>, number: usize, end: char)
+    requires room { length text.old.bytes + length (decimal number) < longest }
+    requires ascii { end < 128 }
+    ensures { text.new.bytes ≡ text.old.bytes ++ decimal number ++ end ∷ [] }
 {
-    out[at] = byte;
-    at + 1
+    text.push_str(Buffer::new().format(number));
+    text.push(end);
 }
 
-// Writes the digits of a number from a place on, and gives the place after them.
-fn put_number(out: &mut [u8], at: usize, number: usize) -> usize
-    requires { at + length (decimal number) ≤ length out.old }
-    ensures place { result ≡ at + length (decimal number) }
-    ensures bytes { out.new ≡ sets out.old at (decimal number) }
+// The text of a line that has these numbers, which can be read back.
+#[tactic(auto, using(crate::proofs::Bytes::read_written), unfolding(crate::specs::Lines::written))]
+fn text_of(numbers: &[usize]) -> ArrayString<LONGEST>
+    requires { length (written numbers.now) ≤ longest }
+    ensures text { result.bytes ≡ written numbers.now }
+    ensures reads { read_line (written numbers.now) ≡ numbers.now }
 {
-    if number < 10 {
-        return put_byte(out, at, b'0' + number as u8);
+    let mut text = ArrayString::new();
+    if let Some((last, others)) = numbers.split_last() {
+        for number in others {
+            push_number(&mut text, *number, ' ');
+        }
+        push_number(&mut text, *last, '\n');
     }
-    let last = put_number(out, at, number / 10);
-    put_byte(out, last, b'0' + (number % 10) as u8)
+    text
 }
 
-// Writes a number and the byte that ends it.
-fn put_field(out: &mut [u8], at: usize, number: usize, after: u8) -> usize
-    requires { at + length (decimal number) < length out.old }
-    ensures place { result ≡ at + length (decimal number) + 1 }
-    ensures bytes { out.new ≡ sets out.old at (decimal number ++ (after ∷ [])) }
-{
-    let end = put_number(out, at, number);
-    put_byte(out, end, after)
-}
-
-// Writes the numbers of a line from a place on, and gives the place after the line.
-fn put_numbers(out: &mut [u8], at: usize, numbers: &[usize]) -> usize
-    requires some { 0 < length numbers.now }
-    requires room { at + length (written numbers.now) ≤ length out.old }
-    ensures place { result ≡ at + length (written numbers.now) }
-    ensures bytes { out.new ≡ sets out.old at (written numbers.now) }
-{
-    if numbers.len() == 1 {
-        return put_field(out, at, numbers[0], b'\n');
-    }
-    let next = put_field(out, at, numbers[0], b' ');
-    put_numbers(out, next, &numbers[1..])
-}
-
-fn put_answer(out: &mut [u8], number: u8, place: usize) -> usize
-    requires { (longest ≤ length out.old) × (number < 100) }
-    ensures { Put (answer_numbers number place) out.old out.new result }
-{
-    let next = put_field(out, 0, number as usize, b' ');
-    put_field(out, next, place, b'\n')
-}
-
-// Whether a run is left unmatched.
-fn flag(lowest: Option<u16>) -> u8
-    ensures { result ≡ flag_of lowest }
-{
-    match lowest {
-        Some(_) => 1,
-        None => 0,
-    }
-}
-
-// The lowest unmatched run, or 0.
-fn run(lowest: Option<u16>) -> u16
-    ensures { result ≡ run_of lowest }
-{
-    match lowest {
-        Some(run) => run,
-        None => 0,
-    }
-}
-
-fn put_report(out: &mut [u8], report: Report) -> usize
-    requires { longest ≤ length out.old }
-    ensures { Put (report_numbers report) out.old out.new result }
-{
-    let model = report.model as usize;
-    let active = report.active as usize;
-    let matched = report.matched as usize;
-    let flag = flag(report.lowest) as usize;
-    let run = run(report.lowest) as usize;
-    put_numbers(out, 0, &[model, active, matched, flag, run])
-}
-
-fn put_line(out: &mut [u8], line: Line) -> usize
-    requires { longest ≤ length out.old }
-    ensures { Put (numbers_of line) out.old out.new result }
+#[tactic(auto, using(crate::proofs::Bytes::answer_fits, crate::proofs::Bytes::report_fits))]
+fn line_text(line: Line) -> ArrayString<LONGEST>
+    ensures text { result.bytes ≡ written (numbers_of line) }
+    ensures fits { length (written (numbers_of line)) ≤ longest }
+    ensures reads { read_line (written (numbers_of line)) ≡ numbers_of line }
 {
     match line {
-        Line::Accepted => put_answer(out, 0, 0),
-        Line::Declined(refusal) => put_answer(out, refusal.cause.number(), refusal.place),
-        Line::Report(report) => put_report(out, report),
+        Line::Answer(Ok(())) => text_of(&[0, 0]),
+        Line::Answer(Err(refusal)) => {
+            text_of(&[usize::from(refusal.cause.number()), refusal.place])
+        }
+        Line::Report(report) => text_of(&[
+            usize::from(report.model),
+            usize::from(report.active),
+            usize::from(report.matched),
+            usize::from(report.lowest.is_some()),
+            usize::from(report.lowest.unwrap_or(0)),
+        ]),
     }
 }
 
@@ -119,5 +70,7 @@ pub fn write_line(line: Line, out: &mut [u8]) -> Result<usize, Refusal>
             place: 0,
         });
     }
-    Ok(put_line(out, line))
+    let text = line_text(line);
+    out[..text.len()].copy_from_slice(text.as_bytes());
+    Ok(text.len())
 }

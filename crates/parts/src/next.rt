@@ -1,7 +1,8 @@
 ghost use Rattle.std.specs.Prelude.{◌≡◌, take};
-ghost use Rattle.parts.specs.Cut.{part_length, part_end, parts_of};
+ghost use Rattle.std.specs.Iterator.{item_count};
+ghost use Rattle.parts.specs.Cut.{part_length, parts_of};
 ghost use Rattle.parts.specs.Law.{Rejoins};
-ghost use Rattle.parts.specs.Left.{rest, left, Takes};
+ghost use Rattle.parts.specs.Left.{left, Takes};
 
 use crate::cutter::{Parts, Stage};
 use crate::part::Part;
@@ -10,15 +11,20 @@ use crate::part::Part;
 fn part_len(bytes: &[u8]) -> usize
     ensures { result ≡ part_length bytes.now }
 {
-    if bytes.len() < 3 {
-        return bytes.len();
+    match bytes {
+        [_, high, low, ..] => {
+            let whole = 3 + usize::from(u16::from_be_bytes([*high, *low]));
+            whole.min(bytes.len())
+        }
+        _ => bytes.len(),
     }
-    let whole = 3 + bytes[1] as usize * 256 + bytes[2] as usize;
-    if whole < bytes.len() {
-        whole
-    } else {
-        bytes.len()
-    }
+}
+
+// The file that the bytes begin with.
+fn first_file(bytes: &[u8]) -> &[u8]
+    ensures { result.now ≡ take (part_length bytes.now) bytes.now }
+{
+    &bytes[..part_len(bytes)]
 }
 
 impl<'a> Parts<'a> {
@@ -33,70 +39,40 @@ impl<'a> Parts<'a> {
             stage: Stage::Model,
         }
     }
+}
+
+impl<'a> Iterator for Parts<'a> {
+    type Item = Part<'a>;
+
+    ghost next_gives = { λ before part after. Takes before part after × (after.stream ≡ before.stream) };
+
+    ghost remaining = { item_count left };
 
     /// The next part, if there is one.
-    pub fn next(&mut self) -> Option<Part<'a>>
-        ensures takes { Takes self.old result self.new }
-        ensures stream { self.new.stream ≡ self.old.stream }
-    {
-        match self.stage {
-            Stage::Model => self.take_model(),
-            Stage::Pair => self.take_pair(),
-            Stage::HandIns => self.take_hand_in(),
-        }
-    }
-
-    fn take_model(&mut self) -> Option<Part<'a>>
-        requires { self.old.stage ≡ Stage.Model }
-        ensures takes { Takes self.old result self.new }
-        ensures stream { self.new.stream ≡ self.old.stream }
-    {
-        let at = self.at;
-        if at == self.stream.len() {
-            return None;
-        }
-        self.at = at + 1;
-        self.stage = Stage::Pair;
-        Some(Part::Model {
-            byte: self.stream[at],
-            at,
-        })
-    }
-
-    // The next file and its place.
-    fn take_file(&mut self) -> (&'a [u8], usize)
-        ensures file { result.0.now ≡ take (part_length (rest self.old)) (rest self.old) }
-        ensures place { result.1 ≡ self.old.at }
-        ensures moved { self.new.at ≡ part_end self.old.stream.now self.old.at }
-        ensures stage { self.new.stage ≡ self.old.stage }
-        ensures stream { self.new.stream ≡ self.old.stream }
-    {
+    fn next(&mut self) -> Option<Part<'a>> {
         let at = self.at;
         let stream = self.stream;
-        let len = part_len(&stream[at..]);
-        self.at = at + len;
-        (&stream[at..at + len], at)
-    }
-
-    fn take_pair(&mut self) -> Option<Part<'a>>
-        requires { self.old.stage ≡ Stage.Pair }
-        ensures takes { Takes self.old result self.new }
-        ensures stream { self.new.stream ≡ self.old.stream }
-    {
-        let (bytes, at) = self.take_file();
-        self.stage = Stage::HandIns;
-        Some(Part::Pair { bytes, at })
-    }
-
-    fn take_hand_in(&mut self) -> Option<Part<'a>>
-        requires { self.old.stage ≡ Stage.HandIns }
-        ensures takes { Takes self.old result self.new }
-        ensures stream { self.new.stream ≡ self.old.stream }
-    {
-        if self.at == self.stream.len() {
-            return None;
+        match self.stage {
+            Stage::Model => {
+                let byte = *stream.get(at)?;
+                self.at = at + 1;
+                self.stage = Stage::Pair;
+                Some(Part::Model { byte, at })
+            }
+            Stage::Pair => {
+                let bytes = first_file(&stream[at..]);
+                self.at = at + bytes.len();
+                self.stage = Stage::HandIns;
+                Some(Part::Pair { bytes, at })
+            }
+            Stage::HandIns => {
+                if at == stream.len() {
+                    return None;
+                }
+                let bytes = first_file(&stream[at..]);
+                self.at = at + bytes.len();
+                Some(Part::HandIn { bytes, at })
+            }
         }
-        let (bytes, at) = self.take_file();
-        Some(Part::HandIn { bytes, at })
     }
 }
