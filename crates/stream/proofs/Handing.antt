@@ -7,16 +7,16 @@ use Rattle.pairs.specs.Meant.{meant}
 use Rattle.pairs.specs.declared.pair.Pair.{Pair}
 use Rattle.judging.specs.Judged.{Judged}
 use Rattle.lines.specs.Lines.{numbers_of, written}
-use Rattle.lines.specs.declared.line.Line.{Line}
-use Rattle.cases.specs.History.{Call, hand_in}
+use Rattle.lines.specs.declared.line.Line.TheVariants.{Answer}
+use Rattle.cases.specs.History.{hand_in}
 use Rattle.cases.specs.Promise.{HandInAnswer}
-use Rattle.cases.specs.Standing.{Follows, Stands}
+use Rattle.cases.specs.Standing.{Follows, Stands, GoesOn}
 use Rattle.cases.specs.declared.case.Case.{Case}
 use Rattle.parts.specs.Cut.{Piece, model, pair}
 use Rattle.parts.specs.Cut as cut
 use Rattle.parts.specs.Law.{bytes_of, HandIns}
 use Rattle.stream.specs.Printed.{answer_line, Answers, none, next}
-use Rattle.stream.specs.Handed.{line_of, Handed}
+use Rattle.stream.specs.Handed.{Handed}
 
 pub map_more : {X Y : Type 0} (f : X → Y) (xs : List X) (x : X) → map f (xs ++ x ∷ []) ≡ map f xs ++ f x ∷ []
 map_more f [] x = refl
@@ -34,7 +34,7 @@ module _ {m : Meaning} {P : Program} where
       subst (Answers m P (first ∷ (files ++ bs ∷ []))) (sym (append_assoc (answer_line q) out (answer_line r))) (next q k (more_answers r j a))
 
   -- the answer to a hand-in, and its line
-  answered : (bs : List ℕ) (r : Result (Unit {0}) Refusal) → HandInAnswer m P bs r → (j : Result ℕ Refusal) × Judged m P bs j × (answer_line j ≡ written (numbers_of (line_of r)))
+  answered : (bs : List ℕ) (r : Result (Unit {0}) Refusal) → HandInAnswer m P bs r → (j : Result ℕ Refusal) × Judged m P bs j × (answer_line j ≡ written (numbers_of (Answer r)))
   answered bs (Ok u) (k, j, n) = (Ok k, j, refl)
   answered bs (Err e) (j, n) = (Err e, j, refl)
 
@@ -45,7 +45,7 @@ module _ {M : Type 0} (meaning : M → Meaning) where
   pub handed_more : (before mid after : Case M) (files : List (List ℕ)) (out new bs : List ℕ) (r : Result (Unit {0}) Refusal)
       → Handed meaning before mid files out → after.pair ≡ mid.pair → after.model ≡ mid.model → HandInAnswer (meaning mid.model) (meant mid.pair) bs r
       → Follows meaning after (map hand_in files ++ hand_in bs ∷ []) → Stands meaning after (map hand_in files ++ hand_in bs ∷ [])
-      → new ≡ out ++ written (numbers_of (line_of r)) → Handed meaning before after (files ++ bs ∷ []) new
+      → new ≡ out ++ written (numbers_of (Answer r)) → Handed meaning before after (files ++ bs ∷ []) new
   handed_more before mid after files out new bs r h p q a f s e =
       let calls = sym (map_more hand_in files bs) in
       let here : HandInAnswer (meaning before.model) (meant before.pair) bs r =
@@ -60,17 +60,15 @@ module _ {M : Type 0} (meaning : M → Meaning) where
       }
 
   -- the same by the parts that were taken, and those that are left
-  pub part_more : (before mid after : Case M) (all taken rest rest' : List Piece) (p : Piece) (out new bs : List ℕ) (r : Result (Unit {0}) Refusal) (line : Line)
+  pub part_more : (before mid after : Case M) (all taken rest rest' : List Piece) (p : Piece) (out new bs : List ℕ) (r : Result (Unit {0}) Refusal)
       → all ≡ taken ++ rest → HandIns rest → Handed meaning before mid (map bytes_of taken) out → rest ≡ p ∷ rest' → bytes_of p ≡ bs
       → after.pair ≡ mid.pair → after.model ≡ mid.model → HandInAnswer (meaning mid.model) (meant mid.pair) bs r
-      → ((h : List Call) → Follows meaning mid h → Follows meaning after (h ++ hand_in bs ∷ []))
-      → ((h : List Call) → Follows meaning mid h → Stands meaning after (h ++ hand_in bs ∷ []))
-      → line ≡ line_of r → new ≡ out ++ written (numbers_of line)
+      → GoesOn meaning mid (hand_in bs) after → new ≡ out ++ written (numbers_of (Answer r))
       → (t : List Piece) × (all ≡ t ++ rest') × HandIns rest' × Handed meaning before after (map bytes_of t) new
-  part_more before mid after all taken rest rest' p out new bs r line whole hs h e is same-pair same-model a f s l w = (
+  part_more before mid after all taken rest rest' p out new bs r whole hs h e is same-pair same-model a on w = (
     taken ++ p ∷ [],
     whole ∙ ap (λ xs. taken ++ xs) e ∙ sym (append_assoc taken (p ∷ []) rest'),
     hand_ins_rest p rest' (subst HandIns e hs),
     subst (λ (xs : List (List ℕ)). Handed meaning before after xs new) (ap (λ (x : List ℕ). map bytes_of taken ++ x ∷ []) (sym is) ∙ sym (map_more bytes_of taken p))
-        (handed_more before mid after (map bytes_of taken) out new bs r h same-pair same-model a (f _ h.follows) (s _ h.follows) (w ∙ ap (λ x. out ++ written (numbers_of x)) l)),
+        (handed_more before mid after (map bytes_of taken) out new bs r h same-pair same-model a (on _ h.follows).0 (on _ h.follows).1 w),
   )

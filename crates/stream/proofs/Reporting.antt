@@ -10,7 +10,6 @@ use Rattle.cases.specs.History.{hand_in}
 use Rattle.cases.specs.Promise.{VerdictPromise, CountPromise, Unobservable}
 use Rattle.cases.specs.Standing.{Verdict, Counted}
 use Rattle.cases.specs.declared.case.Case.{Case}
-use Rattle.cases.specs.declared.sealed.Sealed.{Sealed}
 use Rattle.stream.specs.Printed.{Answers, Lines}
 use Rattle.stream.specs.Handed.{Handed}
 
@@ -23,22 +22,21 @@ module _ {M : Type 0} (meaning : M → Meaning) where
   moved : (F : Meaning → Program → Type 0) (x y : M) (p q : Pair) → x ≡ y → p ≡ q → F (meaning x) (meant p) → F (meaning y) (meant q)
   moved F x y p q e d f = subst (λ (z : Pair). F (meaning y) (meant z)) d (subst (λ (z : M). F (meaning z) (meant p)) e f)
 
-  pub lines_made : (number : ℕ) (model : M) (pair : Pair) (opened ended : Case M) (files : List (List ℕ)) (out new : List ℕ) (s : Sealed) (r : Report)
+  pub lines_made : (number : ℕ) (model : M) (pair : Pair) (opened ended : Case M) (files : List (List ℕ)) (out new : List ℕ) (r : Report)
       → opened.pair ≡ pair → opened.model ≡ model → Handed meaning opened ended files out
-      → s.model ≡ number → Counted ended s.matched s.active → Verdict ended s.lowest
-      → r.model ≡ s.model → r.active ≡ s.active → r.matched ≡ s.matched → r.lowest ≡ s.lowest
+      → r.model ≡ number → Counted ended r.matched r.active → Verdict ended r.lowest
       → new ≡ out ++ written (report_numbers r) → Lines number (meaning model) (meant pair) files new
-  lines_made number model pair opened ended files out new s r p m h b counts low rb ra rn rv e = record {
+  lines_made number model pair opened ended files out new r p m h b counts low e = record {
     answers = out;
     report = written (report_numbers r);
     answered = moved (λ x P. Answers x P files out) opened.model model opened.pair pair m p h.answers;
     reported = record {
-      lowest = s.lowest;
-      matched = s.matched;
-      active = s.active;
-      verdict = moved (λ x P. VerdictPromise (Unobservable x P) x P (map hand_in files) s.lowest) ended.model model ended.pair pair (h.model ∙ m) (h.pair ∙ p) (h.stands.verdict s.lowest low);
-      count = moved (λ x P. CountPromise x P (map hand_in files) s.matched s.active) ended.model model ended.pair pair (h.model ∙ m) (h.pair ∙ p) (h.stands.count s.matched s.active counts);
-      bytes = same_report r.model number r.active s.active r.matched s.matched r.lowest s.lowest (rb ∙ b) ra rn rv;
+      lowest = r.lowest;
+      matched = r.matched;
+      active = r.active;
+      verdict = moved (λ x P. VerdictPromise (Unobservable x P) x P (map hand_in files) r.lowest) ended.model model ended.pair pair (h.model ∙ m) (h.pair ∙ p) (h.stands.verdict r.lowest low);
+      count = moved (λ x P. CountPromise x P (map hand_in files) r.matched r.active) ended.model model ended.pair pair (h.model ∙ m) (h.pair ∙ p) (h.stands.count r.matched r.active counts);
+      bytes = rw b refl;
     };
     bytes = e;
   }

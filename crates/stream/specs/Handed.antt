@@ -1,22 +1,13 @@
 -- A case after hand-ins, and the lines that answered them.
-use Rattle.std.specs.Prelude.{◌≡◌, ℕ, List, map, Ok, Err, Result}
-use Rattle.trace.specs.declared.refusal.Refusal.{Refusal}
+use Rattle.std.specs.Prelude.{◌≡◌, ℕ, List, map}
 use Rattle.ordering.specs.Meaning.{Meaning}
 use Rattle.pairs.specs.Meant.{meant}
 use Rattle.cases.specs.History.{hand_in}
 use Rattle.cases.specs.Standing.{Follows, Stands}
 use Rattle.cases.specs.declared.case.Case.{Case}
-use Rattle.lines.specs.declared.line.Line.{Line}
-use Rattle.lines.specs.declared.line.Line.TheVariants.{Accepted, Declined}
 use Rattle.stream.specs.Printed.{Answers}
 
--- The line that answers a hand-in.
-abbrev pub line_of : Result (Unit {0}) Refusal → Line
-line_of (Ok _) = Accepted
-line_of (Err e) = Declined e
-
 -- The case is as the hand-ins leave it, and the bytes answer them.
-
 pub record Handed {M : Type 0} (meaning : M → Meaning) (before after : Case M) (files : List (List ℕ)) (out : List ℕ) : Type 0 where
   pub pair : after.pair ≡ before.pair
   pub model : after.model ≡ before.model

@@ -1,3 +1,4 @@
 pub mod Models
 pub mod Printed
+pub mod Opened
 pub mod Handed

@@ -1,7 +1,10 @@
 -- The model that a byte names.
-use Rattle.std.specs.Prelude.{◌≡◌, ℕ, cond, Some, None, Option, ◌==◌}
+use Rattle.std.specs.Prelude.{◌≡◌, ℕ, cond, Some, None, Ok, Err, Option, Result, ◌==◌}
+use Rattle.trace.specs.declared.refusal.Refusal.{Refusal}
+use Rattle.trace.specs.declared.refusal.Cause.TheVariants.{Stream}
 use Rattle.ordering.specs.Meaning.{Meaning}
 use Rattle.ordering.specs.Table.{sc, ibm390, tso, pso, clr}
+use Rattle.snippet.specs.Parse.{refusal}
 use Rattle.stream.specs.declared.named.Named.{Named}
 use Rattle.stream.specs.declared.named.Named.TheVariants.{Sc, Ibm390, Tso, Pso, Clr}
 
@@ -29,7 +32,7 @@ meaning_of Tso = tso
 meaning_of Pso = pso
 meaning_of Clr = clr
 
--- The name is the one that the byte stands for, if there is one.
-abbrev pub NamedBy : ℕ → Option Named → Type 0
-NamedBy b (Some n) = (b ≡ byte_of n) × (model_of b ≡ Some (meaning_of n))
-NamedBy b None = model_of b ≡ None
+-- The name is the one that the byte stands for, and where there is none, the stream is declined.
+abbrev pub NamedBy : ℕ → Result Named Refusal → Type 0
+NamedBy b (Ok n) = (b ≡ byte_of n) × (model_of b ≡ Some (meaning_of n))
+NamedBy b (Err e) = (model_of b ≡ None) × (e ≡ refusal Stream 0)

@@ -5,6 +5,8 @@
 
 mod judge;
 mod named;
+mod open;
+mod opened;
 mod print;
 
 pub use judge::judge_stream;

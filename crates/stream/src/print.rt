@@ -10,7 +10,7 @@ pub(crate) fn print(line: Line, out: &mut Vec<u8>) -> Result<(), AllocError>
 {
     let mut bytes = [0; 24];
     match write_line(line, &mut bytes) {
-        Ok(length) => out.extend_from_slice(&bytes[0..length]),
+        Ok(length) => out.extend_from_slice(&bytes[..length]),
         // any line fits
         Err(_) => unreachable(),
     }

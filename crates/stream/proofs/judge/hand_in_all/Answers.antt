@@ -12,6 +12,6 @@ loop-bytes-preserved g c =
     let h = c.hand_in.ensures in
     part_more g.M.Model.meaning c.args.case.now c.loop-bytes.case c.hand_in.new.self
     (left c.args.parts) taken (left c.loop-bytes.parts) (left c.next.new.self) _
-    (vec_items c.loop-bytes.out) (vec_items c.print.new.out) c.in-Some-HandIn.bytes.now c.hand_in.result c.answer.result
-    whole hs handed c.in-Some-HandIn.ensures.takes (search rules)
-    h.pair h.model h.answer h.follows h.promise c.answer.ensures c.in_ok-print.ensures
+    (vec_items c.loop-bytes.out) (vec_items c.print.new.out) c.in-Some-HandIn.bytes.now c.hand_in.result
+    whole hs handed c.in-Some-HandIn.ensures.steps.0 (search rules)
+    h.pair h.model h.answer h.goes_on c.in_ok-print.ensures

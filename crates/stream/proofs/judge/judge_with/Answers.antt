@@ -10,6 +10,5 @@ returns g c =
     let s = c.seal.ensures in
     let r = c.report.ensures in
     lines_made g.M.Model.meaning g.M.Model.number c.args.model c.args.pair c.open-case.result c.hand_in_all.new.case
-    (map bytes_of (left c.args.parts)) (vec_items c.hand_in_all.new.out) (vec_items c.print.new.out) c.seal.result c.report.result
-    o.pair o.model c.in_ok-hand_in_all.ensures
-    s.model s.count s.verdict r.model r.active r.matched r.lowest c.in_ok-print.ensures
+    (map bytes_of (left c.args.parts)) (vec_items c.hand_in_all.new.out) (vec_items c.print.new.out) c.report.result
+    o.pair o.model c.in_ok-hand_in_all.ensures (rw r s.model) (rw r s.count) (rw r s.verdict) c.in_ok-print.ensures

@@ -2,7 +2,7 @@ use Rattle.std.proofs.Common.{sym, subst}
 use Rattle.std.proofs.lemmas.Result.{IfOk-weaker}
 use Rattle.pairs.specs.Meant.{meant}
 use Rattle.stream.specs.Printed.{FilesPrinted, declined, judged}
-use Rattle.stream.proofs.judge.judge_files.Goals as goal
+use Rattle.stream.proofs.judge.judge_opened.Goals as goal
 
 pub returns-in-Ok : goal.returns-in-Ok
 returns-in-Ok c =
