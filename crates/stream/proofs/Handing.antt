@@ -12,20 +12,12 @@ use Rattle.cases.specs.History.{hand_in}
 use Rattle.cases.specs.Promise.{HandInAnswer}
 use Rattle.cases.specs.Standing.{Follows, Stands, GoesOn}
 use Rattle.cases.specs.declared.case.Case.{Case}
-use Rattle.parts.specs.Cut.{Piece, model, pair}
-use Rattle.parts.specs.Cut as cut
-use Rattle.parts.specs.Law.{bytes_of, HandIns}
 use Rattle.stream.specs.Printed.{answer_line, Answers, none, next}
 use Rattle.stream.specs.Handed.{Handed}
 
 pub map_more : {X Y : Type 0} (f : X → Y) (xs : List X) (x : X) → map f (xs ++ x ∷ []) ≡ map f xs ++ f x ∷ []
 map_more f [] x = refl
 map_more f (y ∷ xs) x = ap (λ ys. f y ∷ ys) (map_more f xs x)
-
-hand_ins_rest : (p : Piece) (ps : List Piece) → HandIns (p ∷ ps) → HandIns ps
-hand_ins_rest (model b at) ps h = absurd h
-hand_ins_rest (pair bs at) ps h = absurd h
-hand_ins_rest (cut.hand_in bs at) ps h = h.1
 
 module _ {m : Meaning} {P : Program} where
   more_answers : {files : List (List ℕ)} {out bs : List ℕ} (r : Result ℕ Refusal) → Judged m P bs r → Answers m P files out → Answers m P (files ++ bs ∷ []) (out ++ answer_line r)
@@ -60,15 +52,15 @@ module _ {M : Type 0} (meaning : M → Meaning) where
       }
 
   -- the same by the parts that were taken, and those that are left
-  pub part_more : (before mid after : Case M) (all taken rest rest' : List Piece) (p : Piece) (out new bs : List ℕ) (r : Result (Unit {0}) Refusal)
-      → all ≡ taken ++ rest → HandIns rest → Handed meaning before mid (map bytes_of taken) out → rest ≡ p ∷ rest' → bytes_of p ≡ bs
+
+  -- a hand-in is taken, and its line written
+  pub one_more : (before mid after : Case M) (all taken rest rest' : List (List ℕ)) (out new bs : List ℕ) (r : Result (Unit {0}) Refusal)
+      → all ≡ taken ++ rest → Handed meaning before mid taken out → rest ≡ bs ∷ rest'
       → after.pair ≡ mid.pair → after.model ≡ mid.model → HandInAnswer (meaning mid.model) (meant mid.pair) bs r
       → GoesOn meaning mid (hand_in bs) after → new ≡ out ++ written (numbers_of (Answer r))
-      → (t : List Piece) × (all ≡ t ++ rest') × HandIns rest' × Handed meaning before after (map bytes_of t) new
-  part_more before mid after all taken rest rest' p out new bs r whole hs h e is same-pair same-model a on w = (
-    taken ++ p ∷ [],
-    whole ∙ ap (λ xs. taken ++ xs) e ∙ sym (append_assoc taken (p ∷ []) rest'),
-    hand_ins_rest p rest' (subst HandIns e hs),
-    subst (λ (xs : List (List ℕ)). Handed meaning before after xs new) (ap (λ (x : List ℕ). map bytes_of taken ++ x ∷ []) (sym is) ∙ sym (map_more bytes_of taken p))
-        (handed_more before mid after (map bytes_of taken) out new bs r h same-pair same-model a (on _ h.follows).0 (on _ h.follows).1 w),
+      → (t : List (List ℕ)) × (all ≡ t ++ rest') × Handed meaning before after t new
+  one_more before mid after all taken rest rest' out new bs r whole h e same-pair same-model a on w = (
+    taken ++ bs ∷ [],
+    whole ∙ ap (λ xs. taken ++ xs) e ∙ sym (append_assoc taken (bs ∷ []) rest'),
+    handed_more before mid after taken out new bs r h same-pair same-model a (on _ h.follows).0 (on _ h.follows).1 w,
   )

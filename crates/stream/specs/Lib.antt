@@ -1,3 +1,5 @@
+pub mod OnlyHandIns
+pub mod Files
 pub mod Models
 pub mod Printed
 pub mod Opened

@@ -1,20 +1,18 @@
-ghost use Rattle.std.specs.Prelude.{◌≡◌, [], map, IfOk, OnOk};
+ghost use Rattle.std.specs.Prelude.{◌≡◌, [], IfOk, OnOk};
 ghost use Rattle.pairs.specs.Meant.{meant};
-ghost use Rattle.parts.specs.Law.{bytes_of, HandIns};
-ghost use Rattle.parts.specs.Left.{left};
 ghost use Rattle.cases.specs.Standing.{Follows, Stands};
 ghost use Rattle.stream.specs.Models.{byte_of, meaning_of};
 ghost use Rattle.stream.specs.Printed.{cause_line, Lines, FilesPrinted, Printed, PrintedOnce};
 ghost use Rattle.stream.specs.Handed.{Handed};
+ghost use Rattle.stream.specs.Files.{files};
 
 use crate::named::Named;
-use crate::opened::Opened;
+use crate::opened::{HandIns, Opened};
 use crate::print::print;
 use cases::Case;
 use lines::Line;
 use ordering::{Clr, Ibm390, Model, Pso, Sc, Tso};
 use pairs::{Pair, read_pair};
-use parts::{Part, Parts};
 use std::alloc::{AllocError, Global};
 use trace::Refusal;
 
@@ -27,19 +25,18 @@ fn decline(heap: Global, refusal: Refusal) -> Result<Vec<u8>, AllocError>
     Ok(out)
 }
 
-// Hands in every part that is left, with a line for each.
+// Judges every hand-in, with a line for each.
 fn hand_in_all<M: Model>(
     case: &mut Case<M>,
-    mut parts: Parts<'_>,
+    hand_ins: HandIns<'_>,
     out: &mut Vec<u8>,
 ) -> Result<(), AllocError>
     requires follows { Follows M.meaning case.old [] }
     requires stands { Stands M.meaning case.old [] }
-    requires parts { HandIns (left parts) }
     requires empty { out.old.items ≡ [] }
-    ensures { OnOk result (Handed M.meaning case.old case.new (map bytes_of (left parts.entry)) out.new.items) }
+    ensures { OnOk result (Handed M.meaning case.old case.new (files hand_ins.entry) out.new.items) }
 {
-    while let Some(Part::HandIn { bytes, .. }) = parts.next() {
+    for bytes in hand_ins {
         print(Line::Answer(case.hand_in(bytes)), out)?;
     }
     Ok(())
@@ -50,14 +47,13 @@ fn judge_with<M: Model + Drop>(
     heap: Global,
     model: M,
     pair: Pair,
-    parts: Parts<'_>,
+    hand_ins: HandIns<'_>,
 ) -> Result<Vec<u8>, AllocError>
-    requires { HandIns (left parts) }
-    ensures { IfOk result (λ v. Lines M.number (M.meaning model) (meant pair) (map bytes_of (left parts.entry)) v.items) }
+    ensures { IfOk result (λ v. Lines M.number (M.meaning model) (meant pair) (files hand_ins.entry) v.items) }
 {
     let mut case = Case::open(pair, model);
     let mut out = Vec::new(heap);
-    hand_in_all(&mut case, parts, &mut out)?;
+    hand_in_all(&mut case, hand_ins, &mut out)?;
     print(Line::Report(case.seal().report()), &mut out)?;
     Ok(out)
 }
@@ -66,24 +62,22 @@ fn judge_pair(
     heap: Global,
     model: Named,
     pair: Pair,
-    parts: Parts<'_>,
+    hand_ins: HandIns<'_>,
 ) -> Result<Vec<u8>, AllocError>
-    requires { HandIns (left parts) }
-    ensures { IfOk result (λ v. Lines (byte_of model) (meaning_of model) (meant pair) (map bytes_of (left parts.entry)) v.items) }
+    ensures { IfOk result (λ v. Lines (byte_of model) (meaning_of model) (meant pair) (files hand_ins.entry) v.items) }
 {
     match model {
-        Named::Sc => judge_with(heap, Sc, pair, parts),
-        Named::Ibm390 => judge_with(heap, Ibm390, pair, parts),
-        Named::Tso => judge_with(heap, Tso, pair, parts),
-        Named::Pso => judge_with(heap, Pso, pair, parts),
-        Named::Clr => judge_with(heap, Clr, pair, parts),
+        Named::Sc => judge_with(heap, Sc, pair, hand_ins),
+        Named::Ibm390 => judge_with(heap, Ibm390, pair, hand_ins),
+        Named::Tso => judge_with(heap, Tso, pair, hand_ins),
+        Named::Pso => judge_with(heap, Pso, pair, hand_ins),
+        Named::Clr => judge_with(heap, Clr, pair, hand_ins),
     }
 }
 
 // Judges the pair and the hand-ins of a stream.
 fn judge_opened(heap: Global, opened: Opened<'_>) -> Result<Vec<u8>, AllocError>
-    requires { HandIns (left opened.hand_ins) }
-    ensures { IfOk result (λ v. FilesPrinted (byte_of opened.entry.model) (meaning_of opened.entry.model) opened.entry.file.now (map bytes_of (left opened.entry.hand_ins)) v.items) }
+    ensures { IfOk result (λ v. FilesPrinted (byte_of opened.entry.model) (meaning_of opened.entry.model) opened.entry.file.now (files opened.entry.hand_ins) v.items) }
 {
     match read_pair(opened.file) {
         Ok(pair) => judge_pair(heap, opened.model, pair, opened.hand_ins),

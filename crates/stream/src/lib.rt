@@ -3,6 +3,7 @@
 
 #![tactic(auto)]
 
+mod hand_ins;
 mod judge;
 mod named;
 mod open;

@@ -1,7 +1,7 @@
 ghost use Rattle.stream.specs.Opened.{OpenedAs};
 
 use crate::named::Named;
-use crate::opened::Opened;
+use crate::opened::{HandIns, Opened};
 use parts::{Part, Parts};
 use trace::{Cause, Refusal};
 
@@ -34,7 +34,7 @@ impl<'a> Opened<'a> {
         Ok(Opened {
             model,
             file: bytes,
-            hand_ins: parts,
+            hand_ins: HandIns { parts },
         })
     }
 }

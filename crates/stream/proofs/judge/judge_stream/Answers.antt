@@ -4,7 +4,7 @@ use Rattle.stream.specs.Printed.{Printed, no_stream, fit}
 use Rattle.stream.proofs.judge.judge_stream.Goals as goal
 
 pub returns-in-Ok-clause-printed : goal.returns-in-Ok-clause-printed
-returns-in-Ok-clause-printed c = IfOk-weaker c.judge_opened.result _ _ (λ v p. fit c.in-Ok.ensures.0 p) c.judge_opened.ensures
+returns-in-Ok-clause-printed c = IfOk-weaker c.judge_opened.result _ _ (λ v p. fit c.in-Ok.ensures p) c.judge_opened.ensures
 
 pub returns-in-Err-clause-printed : goal.returns-in-Err-clause-printed
 returns-in-Err-clause-printed c =

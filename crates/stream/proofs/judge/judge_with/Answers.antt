@@ -1,6 +1,5 @@
-use Rattle.std.proofs.Common.{map, vec_items}
-use Rattle.parts.specs.Law.{bytes_of}
-use Rattle.parts.specs.Left.{left}
+use Rattle.std.proofs.Common.{vec_items}
+use Rattle.stream.specs.Files.{files}
 use Rattle.stream.proofs.Reporting.{lines_made}
 use Rattle.stream.proofs.judge.judge_with.Goals as goal
 
@@ -10,5 +9,5 @@ returns g c =
     let s = c.seal.ensures in
     let r = c.report.ensures in
     lines_made g.M.Model.meaning g.M.Model.number c.args.model c.args.pair c.open-case.result c.hand_in_all.new.case
-    (map bytes_of (left c.args.parts)) (vec_items c.hand_in_all.new.out) (vec_items c.print.new.out) c.report.result
+    (files c.args.hand_ins) (vec_items c.hand_in_all.new.out) (vec_items c.print.new.out) c.report.result
     o.pair o.model c.in_ok-hand_in_all.ensures (rw r s.model) (rw r s.count) (rw r s.verdict) c.in_ok-print.ensures
