@@ -5,40 +5,18 @@
 
 #![tactic(auto)]
 
-ghost use Rattle.std.specs.Prelude.{◌<◌};
-
+use anyhow::Result;
 use std::alloc::{AllocError, Global};
+use std::fs;
 use std::io::Write;
-use std::{fs, io};
 use stream::judge_stream;
 
-// The value of a hexadecimal digit.
-fn digit(byte: u8) -> u8
-    ensures { result < 16 }
-{
-    match byte {
-        b'0'..=b'9' => byte - b'0',
-        b'a'..=b'f' => byte - b'a' + 10,
-        _ => 0,
-    }
-}
-
-// The bytes that the digits stand for.
-fn bytes_of(heap: Global, digits: &[u8]) -> Result<Vec<u8>, AllocError> {
-    let mut bytes = Vec::new(heap);
-    for pair in digits.chunks_exact(2) {
-        bytes.push(digit(pair[0]) * 16 + digit(pair[1]))?;
-    }
-    Ok(bytes)
-}
-
 // The stream that a line of the table has after its name.
-fn stream_of(heap: Global, digits: &str, size: &str) -> Result<Vec<u8>, AllocError> {
-    let mut bytes = bytes_of(heap, digits.as_bytes())?;
+fn stream_of(heap: Global, digits: &str, size: &str) -> Result<Vec<u8>> {
+    let mut bytes = hex::decode(heap, digits)?;
     if let Ok(size) = size.parse::<u16>() {
-        for _ in bytes.len()..usize::from(size) {
-            bytes.push(0)?;
-        }
+        let most = bytes.len().max(usize::from(size));
+        bytes.resize(most, 0)?;
     }
     Ok(bytes)
 }
@@ -56,7 +34,7 @@ fn join(lines: &[u8], out: &mut Vec<u8>) -> Result<(), AllocError> {
 }
 
 // Adds what comes of a line of the table.
-fn judge_line(heap: Global, line: &str, out: &mut Vec<u8>) -> Result<(), AllocError> {
+fn judge_line(heap: Global, line: &str, out: &mut Vec<u8>) -> Result<()> {
     let mut fields = line.split('\t');
     let name = fields.next().unwrap_or("");
     let digits = fields.next().unwrap_or("");
@@ -65,14 +43,16 @@ fn judge_line(heap: Global, line: &str, out: &mut Vec<u8>) -> Result<(), AllocEr
     out.extend_from_slice(name.as_bytes())?;
     out.extend_from_slice(b": ")?;
     let lines = judge_stream(heap, &stream)?;
-    join(&lines, out)
+    join(&lines, out)?;
+    Ok(())
 }
 
-fn main(rt: HostRuntime) -> io::Result<()> {
+fn main(rt: HostRuntime) -> Result<()> {
     let table = fs::read_to_string(&rt, "streams.txt")?;
     let mut out = Vec::new(rt.alloc());
     for line in table.lines() {
         judge_line(rt.alloc(), line, &mut out)?;
     }
-    rt.stdout().write_all(&out)
+    rt.stdout().write_all(&out)?;
+    Ok(())
 }

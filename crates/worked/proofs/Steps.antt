@@ -18,7 +18,8 @@ use Rattle.runs.specs.Runs.{start_of, end_of, word_of, idle, count}
 use Rattle.handins.specs.Encoded.{Derivation, encode_hand_in}
 use Rattle.handins.specs.File.{derivation_at}
 use Rattle.handins.proofs.Laws.{complete}
-use Rattle.judging.specs.Judged.{cause_of, Settled, stopped, reached, Decided, settled, Judged}
+use Rattle.rewrite.specs.Refused.{cause_of}
+use Rattle.judging.specs.Judged.{Settled, stopped, reached, Decided, settled, Judged}
 use Rattle.worked.specs.Worked.{Answer, Answered, OnModels, step, by_rule}
 
 -- What is asked of the runs before the steps are looked at.

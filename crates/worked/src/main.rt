@@ -90,17 +90,15 @@ fn as_it_is(to: u8, from: u8) -> [u8; 7]
     [1, 0, 4, 0, to, 0, from]
 }
 
-/// What a call answered: that it is accepted, or a cause's number and its place.
+/// What a call answered, which prints as "accepted", or as a cause's number and its place.
 #[derive(Clone, Copy)]
-struct Answer {
-    refusal: Option<Refusal>,
-}
+struct Answer(Result<(), Refusal>);
 
 impl fmt::Display for Answer {
     fn fmt<W: fmt::Write>(&self, f: &mut fmt::Formatter<W>) -> fmt::Result {
-        match self.refusal {
-            None => write!(f, "accepted"),
-            Some(refusal) => {
+        match self.0 {
+            Ok(()) => write!(f, "accepted"),
+            Err(refusal) => {
                 let number = refusal.cause.number();
                 let place = refusal.place;
                 write!(f, "{number} at {place}")
@@ -111,13 +109,8 @@ impl fmt::Display for Answer {
 
 // The answer to a hand-in for the pair of a file, on a model.
 fn answered<M: Model>(model: &M, file: &[u8], hand_in: &[u8]) -> Answer {
-    let judged = match read_pair(file) {
-        Ok(pair) => judge(&pair, model, hand_in),
-        Err(refusal) => Err(refusal),
-    };
-    Answer {
-        refusal: judged.err(),
-    }
+    let judged = read_pair(file).and_then(|pair| judge(&pair, model, hand_in));
+    Answer(judged.map(|_run| ()))
 }
 
 // A line with the answers on the five models.
@@ -153,9 +146,7 @@ fn show_run(rt: &HostRuntime, snippet: &Snippet, number: u16) -> io::Result<()> 
             println!(rt; "8 run {number}: {idle}")
         }
         Err(refusal) => {
-            let answer = Answer {
-                refusal: Some(refusal),
-            };
+            let answer = Answer(Err(refusal));
             println!(rt; "8 run {number}: {answer}")
         }
     }
