@@ -14,15 +14,18 @@ impl Registers {
         }
     }
 
+    // The values of the registers that there are.
+    fn all(&self) -> &[u8]
+        ensures { result.now ≡ held self.now }
+    {
+        &self.values[..self.count as usize]
+    }
+
     /// The register's value, or 0 where there is no such register.
     pub fn get(&self, register: u8) -> u8
         ensures { result ≡ slice_index (held self.now) register }
     {
-        if register < self.count {
-            self.values[register as usize]
-        } else {
-            0
-        }
+        self.all().get(register as usize).copied().unwrap_or(0)
     }
 
     /// Sets the register, where there is one of that number.
@@ -38,14 +41,6 @@ impl Registers {
     pub fn same(&self, other: &Registers) -> bool
         ensures { MatchBool result (held self.now ≡ held other.now) (held self.now ≢ held other.now) }
     {
-        if self.count != other.count {
-            return false;
-        }
-        for i in 0..self.count as usize {
-            if self.values[i] != other.values[i] {
-                return false;
-            }
-        }
-        true
+        self.all() == other.all()
     }
 }
