@@ -4,6 +4,7 @@
 
 mod choices;
 mod full;
+mod machine;
 mod ran;
 mod registers;
 mod runner;

@@ -1,5 +1,5 @@
 use Rattle.std.proofs.Common.{◌+◌, ◌-◌, ◌*◌}
-use Rattle.runs.proofs.runner.+run_block_run_branch_run_declared_run_statement.Given as goal
+use Rattle.runs.proofs.machine.Machine.+walk.Given as goal
 
 abbrev pub decreases-run_block : goal.decreases-run_block
 decreases-run_block l = 3 * (l.to - l.at)
