@@ -1,6 +1,7 @@
 ghost use Rattle.std.specs.Prelude.{◌≤◌, length};
 
 use crate::choices::Choices;
+use crate::full::Full;
 use crate::registers::Registers;
 use snippet::Body;
 use trace::Event;
@@ -14,4 +15,33 @@ pub(crate) struct Machine<'a> {
     pub(crate) events: &'a mut [Event],
     pub(crate) written: usize,
     ghost room: { written ≤ length events.now },
+}
+
+impl Machine<'_> {
+    ghost use Rattle.std.specs.Prelude.{[], ◌∷◌, slice_set};
+    ghost use Rattle.runs.specs.Runs.{ran};
+    ghost use Rattle.runs.specs.Held.{held, remaining};
+    ghost use Rattle.runs.specs.Walk.{Walks};
+
+    // Writes the next event, if there is a place for it.
+    pub(crate) fn emit(&mut self, event: Event) -> Result<(), Full>
+        ensures { Walks (ran (event ∷ []) (held self.old.registers) (remaining self.old.choices)) self.old self.new result }
+    {
+        let at = self.written;
+        if at >= self.events.len() {
+            return Err(Full);
+        }
+        self.events[at] = event;
+        self.written = at + 1;
+        Ok(())
+    }
+
+    // Writes the event of a value that was found, and puts the value into a register.
+    pub(crate) fn emit_found(&mut self, event: Event, value: u8, register: u8) -> Result<(), Full>
+        ensures { Walks (ran (event ∷ []) (slice_set (held self.old.registers) register value) (remaining self.old.choices)) self.old self.new result }
+    {
+        self.emit(event)?;
+        self.registers.put(register, value);
+        Ok(())
+    }
 }

@@ -18,26 +18,6 @@ mod sure;
 pub use calls::{run, start_registers};
 pub use sure::never_idle;
 
-impl Choices {
-    // Takes the next choice: 0 where none is left.
-    fn next(&mut self) -> u8
-        ensures value { result ≡ first (remaining self.old) }
-        ensures rest { remaining self.new ≡ others (remaining self.old) }
-    {
-        if self.left == 0 {
-            return 0;
-        }
-        let base = self.base as u16;
-        let rest = self.rest;
-        *self = Choices {
-            base: self.base,
-            left: self.left - 1,
-            rest: rest / base,
-        };
-        (rest % base) as u8
-    }
-}
-
 // Gives a declared register its former value back on every way out.
 struct Declared<'a, 'b> {
     machine: &'a mut Machine<'b>,
@@ -68,11 +48,7 @@ fn bounded(at: usize, count: u8, to: usize) -> usize
     ensures value { result ≡ ending at count to }
     ensures bound { (at ≤ result) × (result ≤ to) }
 {
-    if to - at < count as usize {
-        to
-    } else {
-        at + count as usize
-    }
+    at + usize::from(count).min(to - at)
 }
 
 // The place after a statement and its blocks.
@@ -82,46 +58,13 @@ fn next(statement: Statement, at: usize, to: usize) -> usize
     ensures bound { (at < result) × (result ≤ to) }
 {
     match statement {
-        Statement::If {
-            register: _,
-            nonzero,
-            zero,
-        } => {
-            let middle = bounded(at + 1, nonzero, to);
-            bounded(middle, zero, to)
-        }
-        Statement::Declare {
-            register: _,
-            value: _,
-            inner,
-        } => bounded(at + 1, inner, to),
+        Statement::If { nonzero, zero, .. } => bounded(bounded(at + 1, nonzero, to), zero, to),
+        Statement::Declare { inner, .. } => bounded(at + 1, inner, to),
         _ => at + 1,
     }
 }
 
 impl Machine<'_> {
-    // Writes the next event, if there is a place for it.
-    fn emit(&mut self, event: Event) -> Result<(), Full>
-        ensures { Walks (ran (event ∷ []) (held self.old.registers) (remaining self.old.choices)) self.old self.new result }
-    {
-        let at = self.written;
-        if at >= self.events.len() {
-            return Err(Full);
-        }
-        self.events[at] = event;
-        self.written = at + 1;
-        Ok(())
-    }
-
-    // Writes the event of a value that was found, and puts the value into a register.
-    fn emit_found(&mut self, event: Event, value: u8, register: u8) -> Result<(), Full>
-        ensures { Walks (ran (event ∷ []) (slice_set (held self.old.registers) register value) (remaining self.old.choices)) self.old self.new result }
-    {
-        self.emit(event)?;
-        self.registers.put(register, value);
-        Ok(())
-    }
-
     // Carries out the statements from `at` up to `to`.
     #[cycle(walk)]
     fn run_block(&mut self, at: usize, to: usize) -> Result<(), Full>

@@ -13,44 +13,6 @@ use crate::registers::Registers;
 use snippet::Snippet;
 use trace::{Cause, Event, Refusal};
 
-impl Choices {
-    fn new(base: u8, count: u8, number: u16) -> Choices
-        requires { (2 ≤ base) × (number < base ^ count) }
-        ensures { remaining result ≡ digits base count number }
-    {
-        Choices {
-            base,
-            left: count,
-            rest: number,
-        }
-    }
-
-    // How many choices are left.
-    fn left(&self) -> u8
-        ensures { result ≡ length (remaining self.now) }
-    {
-        self.left
-    }
-
-    // Whether a choice that is left is not 0.
-    fn idle(&self) -> bool
-        ensures { result ≡ nonzero (remaining self.now) }
-    {
-        self.rest != 0
-    }
-}
-
-impl Registers {
-    // One more register.
-    fn push(&mut self, value: u8)
-        requires { length (held self.old) < 4 }
-        ensures { held self.new ≡ held self.old ++ (value ∷ []) }
-    {
-        self.values[self.count as usize] = value;
-        self.count += 1;
-    }
-}
-
 // So many digits into as many registers.
 fn first_registers(choices: &mut Choices, count: u8) -> Registers
     requires few { count ≤ 4 }
@@ -95,6 +57,7 @@ pub fn start_registers(snippet: &Snippet, number: u16) -> Result<Registers, Refu
 /// Carries out the run of that number: its word goes into the events, and its end registers into the
 /// registers. Declined with `NoSuchRun` if there is no such run, and with `NoRoom` if the events are too few
 /// for its word; they then hold its beginning.
+#[tactic(auto, using(crate::proofs::Exact::behaviours_are_runs))]
 pub fn run(
     snippet: &Snippet,
     number: u16,

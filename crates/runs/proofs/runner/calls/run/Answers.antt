@@ -4,7 +4,7 @@ use Rattle.snippet.specs.Program.{Block}
 use Rattle.snippet.specs.Keeps.{Sizes}
 use Rattle.snippet.specs.Meant.{sizes_of, program_of}
 use Rattle.runs.specs.Runs.{Run, run_b, run_of, start_of, choices_of, nonzero}
-use Rattle.runs.proofs.Exact.{rest_few, behaviours_are_runs}
+use Rattle.runs.proofs.Exact.{rest_few}
 use Rattle.trace.proofs.Lists.{sets_start}
 use Rattle.runs.proofs.Laid.{sets_short}
 use Rattle.runs.proofs.runner.calls.run.Goals as goal
@@ -12,15 +12,6 @@ use Rattle.runs.proofs.runner.calls.run.Goals as goal
 is_run : (m : Sizes) (b : Block) (k : ℕ) {cs rs : List ℕ} → rs ≡ start_of m k → cs ≡ choices_of m b k → run_b m.values b cs rs ≡ run_of m b k
 unfolding run_of
 is_run m b k p q = rw (p, q) refl
-
-pub returns-in_err-start-clause-exact : goal.returns-in_err-start-clause-exact
-returns-in_err-start-clause-exact c = let s = c.args.snippet.now in behaviours_are_runs (sizes_of s) (program_of s) s.body.limits.few_values
-
-pub returns-in_err-run_block-clause-exact : goal.returns-in_err-run_block-clause-exact
-returns-in_err-run_block-clause-exact c = let s = c.args.snippet.now in behaviours_are_runs (sizes_of s) (program_of s) s.body.limits.few_values
-
-pub returns-clause-exact : goal.returns-clause-exact
-returns-clause-exact c = let s = c.args.snippet.now in behaviours_are_runs (sizes_of s) (program_of s) s.body.limits.few_values
 
 pub overflow_sub-result : goal.overflow_sub-result
 overflow_sub-result c =
