@@ -10,7 +10,7 @@ use Rattle.snippet.specs.Keeps.{Sizes}
 use Rattle.runs.specs.Behaviours.{behaves_b, behaves_c, StartRegisters, Behaves}
 use Rattle.runs.specs.Runs.{digits, first, others, Run, ran, run_b, run_c, start_of, choices_of, run_of, nonzero, count, Active}
 use Rattle.runs.specs.Exact.{Shows, BehavioursAreRuns}
-use Rattle.runs.proofs.Digits.{number, digits-length, digits_small, number_digits, digits_number, number_below, digits_split, lower_digits, upper_digits}
+use Rattle.runs.proofs.Digits.{number, digits_length, digits_small, number_digits, digits_number, number_below, digits_split, lower_digits, upper_digits}
 
 -- The choices that a word shows.
 abbrev chosen : Word → List ℕ
@@ -256,7 +256,7 @@ module _ (m : Sizes) (b : Block) (two : 2 ≤ m.values) where
 
   pub choices-length : (k : ℕ) → length (choices_of m b k) ≡ choices_b b
   unfolding choices_of
-  choices-length k = digits-length m.values (choices_b b) (k / m.values ^ m.registers)
+  choices-length k = digits_length m.values (choices_b b) (k / m.values ^ m.registers)
 
   -- A run's word shows the choices that it takes, and the others are left.
   split_choices : (k : ℕ) → choices_of m b k ≡ chosen (run_of m b k).word ++ (run_of m b k).rest
@@ -322,7 +322,7 @@ module _ (m : Sizes) (b : Block) (two : 2 ≤ m.values) where
   unfolding start_of choices_of run_of
   behave k a =
       record {
-        starts = record { many = digits-length m.values m.registers k; small = digits_small m.values m.registers k (omega arith) };
+        starts = record { many = digits_length m.values m.registers k; small = digits_small m.values m.registers k (omega arith) };
         goes = back_b m.values (omega arith) b (choices_of m b k) (start_of m k) (digits_small m.values (choices_b b) (k / m.values ^ m.registers) (omega arith));
       }
 

@@ -67,6 +67,7 @@ fn next(statement: Statement, at: usize, to: usize) -> usize
 impl Machine<'_> {
     // Carries out the statements from `at` up to `to`.
     #[cycle(walk)]
+    #[tactic(auto, using(snippet::proofs::Blocks::block_end))]
     fn run_block(&mut self, at: usize, to: usize) -> Result<(), Full>
         requires { to ≤ 32 }
         ensures { Walks (of_block self.old (block self.old.body.now.statements at to)) self.old self.new result }

@@ -28,6 +28,7 @@ fn first_registers(choices: &mut Choices, count: u8) -> Registers
 }
 
 // The start registers of a run, and its choices. Declined if there is no such run.
+#[tactic(auto, using(crate::proofs::Bounds::count_is, crate::proofs::Digits::digits_length, crate::proofs::Digits::lower_digits, crate::proofs::Digits::upper_digits), unfolding(crate::specs::Runs::start_of, crate::specs::Runs::choices_of))]
 fn opened(snippet: &Snippet, number: u16) -> Result<(Registers, Choices), Refusal>
     ensures there { OnOk result (number < count (sizes_of snippet.now) (program_of snippet.now)) }
     ensures start { IfOk result (λ o. held o.0 ≡ start_of (sizes_of snippet.now) number) }
@@ -57,7 +58,7 @@ pub fn start_registers(snippet: &Snippet, number: u16) -> Result<Registers, Refu
 /// Carries out the run of that number: its word goes into the events, and its end registers into the
 /// registers. Declined with `NoSuchRun` if there is no such run, and with `NoRoom` if the events are too few
 /// for its word; they then hold its beginning.
-#[tactic(auto, using(crate::proofs::Exact::behaviours_are_runs))]
+#[tactic(auto, using(crate::proofs::Exact::behaviours_are_runs, crate::proofs::Laid::sets_short, trace::proofs::Lists::sets_start), unfolding(crate::specs::Runs::run_of))]
 pub fn run(
     snippet: &Snippet,
     number: u16,

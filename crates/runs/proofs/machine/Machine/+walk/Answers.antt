@@ -1,13 +1,7 @@
-use Rattle.std.proofs.Common.{rules, refl, arith}
+use Rattle.std.proofs.Common.{rules}
 use Rattle.std.proofs.lemmas.Result.{err_from_is_err_and}
-use Rattle.snippet.proofs.Blocks.{block_end}
 use Rattle.runs.proofs.Laid.{stopped, carried}
 use Rattle.runs.proofs.machine.Machine.+walk.Goals as goal
-
-pub run_block-returns-then-at-to : goal.run_block-returns-then-at-to
-run_block-returns-then-at-to t c =
-    rw (block_end c.args.self.now.body.now.statements c.args.at c.args.to c.if-at-to.true)
-    record { body = refl; same = refl; events = refl; ends = record { fits = omega (arith, c.args.self.now.room); written = omega arith; registers = refl; rest = refl } }
 
 pub run_block-returns-in_err-run_statement : goal.run_block-returns-in_err-run_statement
 run_block-returns-in_err-run_statement t c =
