@@ -27,6 +27,7 @@ impl Choices {
     }
 
     // How many choices are left.
+    #[tactic(auto, using(crate::proofs::Digits::digits_length))]
     pub(crate) fn left(&self) -> u8
         ensures { result ≡ length (remaining self.now) }
     {
@@ -34,6 +35,7 @@ impl Choices {
     }
 
     // Whether a choice that is left is not 0.
+    #[tactic(auto, using(crate::proofs::Digits::nonzero_digits))]
     pub(crate) fn idle(&self) -> bool
         ensures { result ≡ nonzero (remaining self.now) }
     {
@@ -41,6 +43,7 @@ impl Choices {
     }
 
     // Takes the next choice: 0 where none is left.
+    #[tactic(auto, using(crate::proofs::Digits::digits_next, crate::proofs::Digits::div_below))]
     pub(crate) fn next(&mut self) -> u8
         ensures value { result ≡ first (remaining self.old) }
         ensures rest { remaining self.new ≡ others (remaining self.old) }

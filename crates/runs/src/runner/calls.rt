@@ -14,6 +14,7 @@ use snippet::Snippet;
 use trace::{Cause, Event, Refusal};
 
 // So many digits into as many registers.
+#[tactic(auto, using(crate::proofs::Taking::take_first, crate::proofs::Taking::drop_first))]
 fn first_registers(choices: &mut Choices, count: u8) -> Registers
     requires few { count ≤ 4 }
     requires there { count ≤ length (remaining choices.old) }
