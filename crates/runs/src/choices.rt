@@ -51,7 +51,7 @@ impl Choices {
         if self.left == 0 {
             return 0;
         }
-        let base = self.base as u16;
+        let base = u16::from(self.base);
         let rest = self.rest;
         *self = Choices {
             base: self.base,

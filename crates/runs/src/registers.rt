@@ -29,7 +29,7 @@ impl Registers {
         requires { length (held self.old) < 4 }
         ensures { held self.new ≡ held self.old ++ (value ∷ []) }
     {
-        self.values[self.count as usize] = value;
+        self.values[usize::from(self.count)] = value;
         self.count += 1;
     }
 
@@ -37,14 +37,14 @@ impl Registers {
     fn all(&self) -> &[u8]
         ensures { result.now ≡ held self.now }
     {
-        &self.values[..self.count as usize]
+        &self.values[..usize::from(self.count)]
     }
 
     /// The register's value, or 0 where there is no such register.
     pub fn get(&self, register: u8) -> u8
         ensures { result ≡ slice_index (held self.now) register }
     {
-        self.all().get(register as usize).copied().unwrap_or(0)
+        self.all().get(usize::from(register)).copied().unwrap_or(0)
     }
 
     /// Sets the register, where there is one of that number.
@@ -52,7 +52,7 @@ impl Registers {
         ensures { held self.new ≡ slice_set (held self.old) register value }
     {
         if register < self.count {
-            self.values[register as usize] = value;
+            self.values[usize::from(register)] = value;
         }
     }
 

@@ -1,7 +1,6 @@
-ghost use Rattle.std.specs.Prelude.{◌≡◌, ◌<◌, ◌≤◌, [], ◌∷◌, slice_index, slice_set};
+ghost use Rattle.std.specs.Prelude.{◌≡◌, ◌+◌, ◌%◌, ◌<◌, ◌≤◌, ◌==◌, cond, slice_index, slice_set};
 ghost use Rattle.snippet.specs.Program.{branch, declare};
 ghost use Rattle.snippet.specs.Layout.{block, ending, after, command_of};
-ghost use Rattle.runs.specs.Runs.{first, others, ran};
 ghost use Rattle.runs.specs.Held.{held, remaining};
 ghost use Rattle.runs.specs.Walk.{Restored, Walks, of_block, of_command};
 
@@ -65,6 +64,25 @@ fn next(statement: Statement, at: usize, to: usize) -> usize
 }
 
 impl Machine<'_> {
+    // The sum of two registers, as a value of the snippet's.
+    fn sum(&self, left: u8, right: u8) -> u8
+        ensures { result ≡ (slice_index (held self.now.registers) left + slice_index (held self.now.registers) right) % self.now.body.now.limits.values }
+    {
+        let total = u16::from(self.registers.get(left)) + u16::from(self.registers.get(right));
+        (total % u16::from(self.body.limits.values)) as u8
+    }
+
+    // What a compare-and-swap leaves where it finds that value.
+    fn swapped(&self, found: u8, compared: u8, new: u8) -> u8
+        ensures { result ≡ cond (found == slice_index (held self.now.registers) compared) (slice_index (held self.now.registers) new) found }
+    {
+        if found == self.registers.get(compared) {
+            self.registers.get(new)
+        } else {
+            found
+        }
+    }
+
     // Carries out the statements from `at` up to `to`.
     #[cycle(walk)]
     #[tactic(auto, using(snippet::proofs::Blocks::block_end))]
@@ -110,9 +128,8 @@ impl Machine<'_> {
                 left,
                 right,
             } => {
-                let total = self.registers.get(left) as u16 + self.registers.get(right) as u16;
-                self.registers
-                    .put(register, (total % self.body.limits.values as u16) as u8);
+                let sum = self.sum(left, right);
+                self.registers.put(register, sum);
                 Ok(())
             }
             Statement::Equal {
@@ -120,8 +137,8 @@ impl Machine<'_> {
                 left,
                 right,
             } => {
-                let same = self.registers.get(left) == self.registers.get(right);
-                self.registers.put(register, u8::from(same));
+                let equal = self.registers.get(left) == self.registers.get(right);
+                self.registers.put(register, u8::from(equal));
                 Ok(())
             }
             Statement::CompareAndSwap {
@@ -131,20 +148,13 @@ impl Machine<'_> {
                 new,
             } => {
                 let found = self.choices.next();
-                let left = if found == self.registers.get(compared) {
-                    self.registers.get(new)
-                } else {
-                    found
-                };
-                self.emit_found(
-                    Event::LoadStore {
-                        location,
-                        found,
-                        left,
-                    },
+                let left = self.swapped(found, compared, new);
+                let event = Event::LoadStore {
+                    location,
                     found,
-                    register,
-                )
+                    left,
+                };
+                self.emit_found(event, found, register)
             }
             Statement::Fence => self.emit(Event::Fence),
             Statement::Get { register } => {

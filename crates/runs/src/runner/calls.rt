@@ -79,9 +79,10 @@ pub fn run(
     };
     machine.run_block(0, snippet.body.len)?;
     *registers = machine.registers;
+    let taken = snippet.choices - machine.choices.left();
     Ok(Ran {
         length: machine.written,
-        taken: (snippet.choices - machine.choices.left()) as usize,
+        taken: usize::from(taken),
         idle: machine.choices.idle(),
     })
 }
