@@ -13,6 +13,7 @@ use Rattle.runs.specs.Held.{held, remaining}
 use Rattle.runs.specs.Walk.{Ends, Walks, of_block, of_command}
 use Rattle.runs.specs.declared.machine.Machine.{Machine}
 use Rattle.runs.specs.declared.full.Full.{Full}
+use Rattle.runs.specs.declared.span.Span.{Span}
 
 sets_out : (xs : Word) (i : ℕ) (a : Word) → length xs ≤ i → sets xs i a ≡ xs
 sets_out xs i [] h = refl
@@ -32,26 +33,26 @@ ends_on one two room at (Ok u) rs cs n h =
 ends_on one two room at (Err e) rs cs n h = omega (arith, length-append one.word two.word)
 
 -- A machine `m` stands at the first statement of a block.
-module _ (m : Machine) (at to : ℕ) (h : at < to) where
+module _ (m : Machine) (span : Span) (h : span.at < span.to) where
   abbrev statements : List Statement
   statements = m.body.now.statements
 
   abbrev command : Command
-  command = command_of (block statements) (get_or statements at Skip) at to
+  command = command_of (block statements) (get_or statements span.at Skip) span.at span.to
 
   abbrev one : Run
   one = of_command m command
 
   abbrev whole : Run
-  whole = of_block m (block statements at to)
+  whole = of_block m (block statements span.at span.to)
 
   -- The events run out in the statement, so in the block.
   pub stopped : (n : Machine) (e : Full) → Walks one m n (Err e) → Walks whole m n (Err e)
   stopped n e w =
       let ev = m.events.now in
-      let others = block statements (after (get_or statements at Skip) at to) to in
+      let others = block statements (after (get_or statements span.at Skip) span.at span.to) span.to in
       let two = run_b m.body.now.limits.values others one.rest one.registers in
-      rw (block_then statements at to h)
+      rw (block_then statements span.at span.to h)
       record {
         body = w.body;
         same = w.same;
@@ -60,18 +61,19 @@ module _ (m : Machine) (at to : ℕ) (h : at < to) where
       }
 
   -- The statement is carried out, and the others decide.
-  pub carried : (n p : Machine) (next : ℕ) (o : Result (Unit {0}) Full)
+  pub carried : (n p : Machine) (rest : Span) (o : Result (Unit {0}) Full)
       → Walks one m n (Ok tt)
-      → next ≡ after (get_or statements at Skip) at to
-      → Walks (of_block n (block n.body.now.statements next to)) n p o
+      → rest.at ≡ after (get_or statements span.at Skip) span.at span.to
+      → rest.to ≡ span.to
+      → Walks (of_block n (block n.body.now.statements rest.at rest.to)) n p o
       → Walks whole m p o
-  carried n p next o w there others =
+  carried n p rest o w at to others =
       let ev = m.events.now in
-      let two = run_b m.body.now.limits.values (block statements (after (get_or statements at Skip) at to) to) one.rest one.registers in
-      let same : of_block n (block n.body.now.statements next to) ≡ two = rw (w.body, there, w.ends.registers, w.ends.rest) refl in
+      let two = run_b m.body.now.limits.values (block statements (after (get_or statements span.at Skip) span.at span.to) span.to) one.rest one.registers in
+      let same : of_block n (block n.body.now.statements rest.at rest.to) ≡ two = rw (w.body, at, to, w.ends.registers, w.ends.rest) refl in
       let room : length n.events.now ≡ length ev = ap length w.events ∙ length-sets ev m.written one.word in
       let on : Ends o two (length ev) (m.written + length one.word) (held p.registers) (remaining p.choices) p.written = rw (← same, ← room, ← w.ends.written) others.ends in
-      rw (block_then statements at to h)
+      rw (block_then statements span.at span.to h)
       record {
         body = others.body ∙ w.body;
         same = others.same ∙ w.same;

@@ -8,6 +8,7 @@ mod machine;
 mod ran;
 mod registers;
 mod runner;
+mod span;
 
 pub use ran::Ran;
 pub use registers::Registers;

@@ -1,12 +1,13 @@
 ghost use Rattle.std.specs.Prelude.{◌≡◌, ◌+◌, ◌%◌, ◌<◌, ◌≤◌, ◌==◌, cond, slice_index, slice_set};
 ghost use Rattle.snippet.specs.Program.{branch, declare};
-ghost use Rattle.snippet.specs.Layout.{block, ending, after, command_of};
+ghost use Rattle.snippet.specs.Layout.{block, command_of};
 ghost use Rattle.runs.specs.Held.{held, remaining};
 ghost use Rattle.runs.specs.Walk.{Restored, Walks, of_block, of_command};
 
 use crate::choices::Choices;
 use crate::full::Full;
 use crate::machine::Machine;
+use crate::span::Span;
 use snippet::Statement;
 use trace::Event;
 
@@ -41,28 +42,6 @@ impl Drop for Declared<'_, '_> {
     }
 }
 
-// Where `count` statements from `at` on end, within the block that ends at `to`.
-fn bounded(at: usize, count: u8, to: usize) -> usize
-    requires { at ≤ to }
-    ensures value { result ≡ ending at count to }
-    ensures bound { (at ≤ result) × (result ≤ to) }
-{
-    at + usize::from(count).min(to - at)
-}
-
-// The place after a statement and its blocks.
-fn next(statement: Statement, at: usize, to: usize) -> usize
-    requires { at < to }
-    ensures value { result ≡ after statement at to }
-    ensures bound { (at < result) × (result ≤ to) }
-{
-    match statement {
-        Statement::If { nonzero, zero, .. } => bounded(bounded(at + 1, nonzero, to), zero, to),
-        Statement::Declare { inner, .. } => bounded(at + 1, inner, to),
-        _ => at + 1,
-    }
-}
-
 impl Machine<'_> {
     // The sum of two registers, as a value of the snippet's.
     fn sum(&self, left: u8, right: u8) -> u8
@@ -83,26 +62,25 @@ impl Machine<'_> {
         }
     }
 
-    // Carries out the statements from `at` up to `to`.
+    // Carries out the statements of a span.
     #[cycle(walk)]
     #[tactic(auto, using(snippet::proofs::Blocks::block_end))]
-    fn run_block(&mut self, at: usize, to: usize) -> Result<(), Full>
-        requires { to ≤ 32 }
-        ensures { Walks (of_block self.old (block self.old.body.now.statements at to)) self.old self.new result }
+    fn run_block(&mut self, span: Span) -> Result<(), Full>
+        ensures { Walks (of_block self.old (block self.old.body.now.statements span.at span.to)) self.old self.new result }
     {
-        if at >= to {
+        if span.at == span.to {
             return Ok(());
         }
-        let statement = self.body.statements[at];
-        self.run_statement(statement, at, to)?;
-        self.run_block(next(statement, at, to), to)
+        let statement = self.body.statements[span.at];
+        self.run_statement(statement, span)?;
+        self.run_block(span.past(statement))
     }
 
-    // Carries out one statement with its blocks.
+    // Carries out the statement at a span's first place, with its blocks.
     #[cycle(walk)]
-    fn run_statement(&mut self, statement: Statement, at: usize, to: usize) -> Result<(), Full>
-        requires { (at < to) × (to ≤ 32) }
-        ensures { Walks (of_command self.old (command_of (block self.old.body.now.statements) statement at to)) self.old self.new result }
+    fn run_statement(&mut self, statement: Statement, span: Span) -> Result<(), Full>
+        requires { span.at < span.to }
+        ensures { Walks (of_command self.old (command_of (block self.old.body.now.statements) statement span.at span.to)) self.old self.new result }
     {
         match statement {
             Statement::Skip => Ok(()),
@@ -170,36 +148,38 @@ impl Machine<'_> {
                 nonzero,
                 zero,
             } => {
-                let middle = bounded(at + 1, nonzero, to);
-                self.run_branch(register, at + 1, middle, bounded(middle, zero, to))
+                let (first, others) = span.rest().split(nonzero);
+                let (second, _) = others.split(zero);
+                self.run_branch(register, first, second)
             }
             Statement::Declare {
                 register,
                 value,
                 inner,
-            } => { self.run_declared(register, value, at + 1, bounded(at + 1, inner, to)) }
+            } => {
+                let (block, _) = span.rest().split(inner);
+                self.run_declared(register, value, block)
+            }
         }
     }
 
-    // The block of an if that its register picks: the first ends where the second begins.
+    // The block of an if that its register picks.
     #[cycle(walk)]
-    fn run_branch(&mut self, register: u8, at: usize, middle: usize, to: usize) -> Result<(), Full>
-        requires { (at ≤ middle) × (middle ≤ to) × (to ≤ 32) }
-        ensures { Walks (of_command self.old (branch register (block self.old.body.now.statements at middle) (block self.old.body.now.statements middle to))) self.old self.new result }
+    fn run_branch(&mut self, register: u8, nonzero: Span, zero: Span) -> Result<(), Full>
+        ensures { Walks (of_command self.old (branch register (block self.old.body.now.statements nonzero.at nonzero.to) (block self.old.body.now.statements zero.at zero.to))) self.old self.new result }
     {
         if self.registers.get(register) == 0 {
-            self.run_block(middle, to)
+            self.run_block(zero)
         } else {
-            self.run_block(at, middle)
+            self.run_block(nonzero)
         }
     }
 
     // The block of a declare: the register has its former value again however the block ends.
     #[cycle(walk)]
-    fn run_declared(&mut self, register: u8, value: u8, at: usize, to: usize) -> Result<(), Full>
-        requires { to ≤ 32 }
+    fn run_declared(&mut self, register: u8, value: u8, span: Span) -> Result<(), Full>
         ensures restored { Restored register (held self.old.registers) (held self.new.registers) }
-        ensures walks { Walks (of_command self.old (declare register value (block self.old.body.now.statements at to))) self.old self.new result }
+        ensures walks { Walks (of_command self.old (declare register value (block self.old.body.now.statements span.at span.to))) self.old self.new result }
     {
         let former = self.registers.get(register);
         self.registers.put(register, value);
@@ -208,7 +188,7 @@ impl Machine<'_> {
             register,
             former,
         };
-        guard.machine.run_block(at, to)?;
+        guard.machine.run_block(span)?;
         Ok(())
     }
 }

@@ -10,6 +10,7 @@ use crate::choices::Choices;
 use crate::machine::Machine;
 use crate::ran::Ran;
 use crate::registers::Registers;
+use crate::span::Span;
 use snippet::Snippet;
 use trace::{Cause, Event, Refusal};
 
@@ -77,7 +78,7 @@ pub fn run(
         events,
         written: 0,
     };
-    machine.run_block(0, snippet.body.len)?;
+    machine.run_block(Span::whole(&snippet.body))?;
     *registers = machine.registers;
     let taken = snippet.choices - machine.choices.left();
     Ok(Ran {
