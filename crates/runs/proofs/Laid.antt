@@ -10,7 +10,7 @@ use Rattle.snippet.specs.declared.statement.Statement.{Statement}
 use Rattle.snippet.specs.declared.statement.Statement.TheVariants.{Skip}
 use Rattle.snippet.proofs.Blocks.{block_then}
 use Rattle.runs.specs.Held.{held, remaining}
-use Rattle.runs.specs.Walk.{Ends, Walks, of_block, of_command}
+use Rattle.runs.specs.Walk.{Ends, block_in, Walks, of_block, of_command}
 use Rattle.runs.specs.declared.machine.Machine.{Machine}
 use Rattle.runs.specs.declared.full.Full.{Full}
 use Rattle.runs.specs.declared.span.Span.{Span}
@@ -44,7 +44,7 @@ module _ (m : Machine) (span : Span) (h : span.at < span.to) where
   one = of_command m command
 
   abbrev whole : Run
-  whole = of_block m (block statements span.at span.to)
+  whole = of_block m (block_in m.body.now span)
 
   -- The events run out in the statement, so in the block.
   pub stopped : (n : Machine) (e : Full) → Walks one m n (Err e) → Walks whole m n (Err e)
@@ -65,12 +65,12 @@ module _ (m : Machine) (span : Span) (h : span.at < span.to) where
       → Walks one m n (Ok tt)
       → rest.at ≡ after (get_or statements span.at Skip) span.at span.to
       → rest.to ≡ span.to
-      → Walks (of_block n (block n.body.now.statements rest.at rest.to)) n p o
+      → Walks (of_block n (block_in n.body.now rest)) n p o
       → Walks whole m p o
   carried n p rest o w at to others =
       let ev = m.events.now in
       let two = run_b m.body.now.limits.values (block statements (after (get_or statements span.at Skip) span.at span.to) span.to) one.rest one.registers in
-      let same : of_block n (block n.body.now.statements rest.at rest.to) ≡ two = rw (w.body, at, to, w.ends.registers, w.ends.rest) refl in
+      let same : of_block n (block_in n.body.now rest) ≡ two = rw (w.body, at, to, w.ends.registers, w.ends.rest) refl in
       let room : length n.events.now ≡ length ev = ap length w.events ∙ length-sets ev m.written one.word in
       let on : Ends o two (length ev) (m.written + length one.word) (held p.registers) (remaining p.choices) p.written = rw (← same, ← room, ← w.ends.written) others.ends in
       rw (block_then statements span.at span.to h)

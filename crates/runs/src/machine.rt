@@ -18,7 +18,7 @@ pub(crate) struct Machine<'a> {
 }
 
 impl Machine<'_> {
-    ghost use Rattle.std.specs.Prelude.{[], ◌∷◌, slice_set};
+    ghost use Rattle.std.specs.Prelude.{◌≡◌, ◌+◌, ◌%◌, ◌==◌, cond, [], ◌∷◌, slice_index, slice_set};
     ghost use Rattle.runs.specs.Runs.{ran};
     ghost use Rattle.runs.specs.Held.{held, remaining};
     ghost use Rattle.runs.specs.Walk.{Walks};
@@ -43,5 +43,24 @@ impl Machine<'_> {
         self.emit(event)?;
         self.registers.put(register, value);
         Ok(())
+    }
+
+    // The sum of two registers, as a value of the snippet's.
+    pub(crate) fn sum(&self, left: u8, right: u8) -> u8
+        ensures { result ≡ (slice_index (held self.now.registers) left + slice_index (held self.now.registers) right) % self.now.body.now.limits.values }
+    {
+        let total = u16::from(self.registers.get(left)) + u16::from(self.registers.get(right));
+        (total % u16::from(self.body.limits.values)) as u8
+    }
+
+    // What a compare-and-swap leaves where it finds that value.
+    pub(crate) fn swapped(&self, found: u8, compared: u8, new: u8) -> u8
+        ensures { result ≡ cond (found == slice_index (held self.now.registers) compared) (slice_index (held self.now.registers) new) found }
+    {
+        if found == self.registers.get(compared) {
+            self.registers.get(new)
+        } else {
+            found
+        }
     }
 }

@@ -1,10 +1,9 @@
-ghost use Rattle.std.specs.Prelude.{◌≡◌, ◌+◌, ◌%◌, ◌<◌, ◌≤◌, ◌==◌, cond, slice_index, slice_set};
+ghost use Rattle.std.specs.Prelude.{◌≡◌, ◌<◌, slice_set};
 ghost use Rattle.snippet.specs.Program.{branch, declare};
 ghost use Rattle.snippet.specs.Layout.{block, command_of};
-ghost use Rattle.runs.specs.Held.{held, remaining};
-ghost use Rattle.runs.specs.Walk.{Restored, Walks, of_block, of_command};
+ghost use Rattle.runs.specs.Held.{held};
+ghost use Rattle.runs.specs.Walk.{Restored, Walks, block_in, of_block, of_command};
 
-use crate::choices::Choices;
 use crate::full::Full;
 use crate::machine::Machine;
 use crate::span::Span;
@@ -43,30 +42,11 @@ impl Drop for Declared<'_, '_> {
 }
 
 impl Machine<'_> {
-    // The sum of two registers, as a value of the snippet's.
-    fn sum(&self, left: u8, right: u8) -> u8
-        ensures { result ≡ (slice_index (held self.now.registers) left + slice_index (held self.now.registers) right) % self.now.body.now.limits.values }
-    {
-        let total = u16::from(self.registers.get(left)) + u16::from(self.registers.get(right));
-        (total % u16::from(self.body.limits.values)) as u8
-    }
-
-    // What a compare-and-swap leaves where it finds that value.
-    fn swapped(&self, found: u8, compared: u8, new: u8) -> u8
-        ensures { result ≡ cond (found == slice_index (held self.now.registers) compared) (slice_index (held self.now.registers) new) found }
-    {
-        if found == self.registers.get(compared) {
-            self.registers.get(new)
-        } else {
-            found
-        }
-    }
-
     // Carries out the statements of a span.
     #[cycle(walk)]
     #[tactic(auto, using(snippet::proofs::Blocks::block_end))]
     fn run_block(&mut self, span: Span) -> Result<(), Full>
-        ensures { Walks (of_block self.old (block self.old.body.now.statements span.at span.to)) self.old self.new result }
+        ensures { Walks (of_block self.old (block_in self.old.body.now span)) self.old self.new result }
     {
         if span.at == span.to {
             return Ok(());
@@ -166,7 +146,7 @@ impl Machine<'_> {
     // The block of an if that its register picks.
     #[cycle(walk)]
     fn run_branch(&mut self, register: u8, nonzero: Span, zero: Span) -> Result<(), Full>
-        ensures { Walks (of_command self.old (branch register (block self.old.body.now.statements nonzero.at nonzero.to) (block self.old.body.now.statements zero.at zero.to))) self.old self.new result }
+        ensures { Walks (of_command self.old (branch register (block_in self.old.body.now nonzero) (block_in self.old.body.now zero))) self.old self.new result }
     {
         if self.registers.get(register) == 0 {
             self.run_block(zero)
@@ -179,7 +159,7 @@ impl Machine<'_> {
     #[cycle(walk)]
     fn run_declared(&mut self, register: u8, value: u8, span: Span) -> Result<(), Full>
         ensures restored { Restored register (held self.old.registers) (held self.new.registers) }
-        ensures walks { Walks (of_command self.old (declare register value (block self.old.body.now.statements span.at span.to))) self.old self.new result }
+        ensures walks { Walks (of_command self.old (declare register value (block_in self.old.body.now span))) self.old self.new result }
     {
         let former = self.registers.get(register);
         self.registers.put(register, value);

@@ -1,7 +1,7 @@
-ghost use Rattle.std.specs.Prelude.{◌≡◌, ◌^◌, ◌<◌, ◌≤◌, [], ◌∷◌, ◌++◌, length, take, drop, OnOk, IfOk, IfErr};
+ghost use Rattle.std.specs.Prelude.{◌≡◌, ◌<◌, ◌≤◌, length, take, drop, OnOk, IfOk, IfErr};
 ghost use Rattle.trace.specs.declared.refusal.Cause.TheVariants.{NoSuchRun};
 ghost use Rattle.snippet.specs.Meant.{sizes_of, program_of};
-ghost use Rattle.runs.specs.Runs.{digits, nonzero, start_of, choices_of, count};
+ghost use Rattle.runs.specs.Runs.{start_of, choices_of, count};
 ghost use Rattle.runs.specs.Exact.{BehavioursAreRuns};
 ghost use Rattle.runs.specs.Held.{held, remaining};
 ghost use Rattle.runs.specs.Answers.{declined, StartAnswer, RunAnswer};

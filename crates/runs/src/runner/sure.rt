@@ -2,6 +2,7 @@ ghost use Rattle.std.specs.Prelude.{◌≡◌, ◌-◌, ◌<◌, ◌≤◌, ◌=
 ghost use Rattle.snippet.specs.Program.{choices_b};
 ghost use Rattle.snippet.specs.Layout.{block, after, command_of};
 ghost use Rattle.snippet.specs.Meant.{sizes_of, program_of};
+ghost use Rattle.runs.specs.Walk.{block_in};
 ghost use Rattle.runs.specs.Sure.{sure_b, sure_c, NeverIdle};
 
 use crate::span::Span;
@@ -11,7 +12,7 @@ use snippet::{Body, Snippet, Statement};
 #[cycle(sure)]
 #[tactic(auto, using(snippet::proofs::Blocks::block_end, snippet::proofs::Blocks::block_then))]
 fn sure_block(body: &Body, span: Span) -> u8
-    ensures value { result ≡ sure_b (block body.now.statements span.at span.to) }
+    ensures value { result ≡ sure_b (block_in body.now span) }
     ensures few { result ≤ span.to - span.at }
 {
     if span.at == span.to {
