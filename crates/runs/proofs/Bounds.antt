@@ -1,16 +1,14 @@
 -- What the record of a snippet bounds: a run's word has at most one event for each statement, so at most 32.
-use Rattle.std.proofs.Common.{◌≡◌, ℕ, ◌+◌, ◌^◌, ◌≤◌, Bool, true, false, cond, eqb, List, length, get_or, take, set, sym, ap, ◌∙◌, arith, length-append, length-take}
+use Rattle.std.proofs.Common.{◌≡◌, ℕ, ◌+◌, ◌^◌, ◌≤◌, eqb, List, length, get_or, take, set, Fits, w8, sym, ap, ◌∙◌, arith, length-append, length-take}
+use Rattle.std.proofs.lemmas.Bool.{cond_both}
 use Rattle.trace.specs.Words.{Registers}
 use Rattle.snippet.specs.Program.{Block, Command, end, then, skip, load, store, constant, copy, sum, equal, compare_and_swap, fence, get, print, branch, declare, size_b, size_c}
 use Rattle.snippet.specs.Keeps.{Sizes}
 use Rattle.snippet.specs.Meant.{sizes_of, program_of}
 use Rattle.snippet.specs.declared.snippet.Snippet.{Snippet}
 use Rattle.snippet.proofs.Laying.{length_b}
+use Rattle.runs.proofs.Digits.{few_digits}
 use Rattle.runs.specs.Runs.{Run, run_b, run_c, run_of, start_of, choices_of, word_of, count}
-
-either : (c : Bool) (x y : Run) (m n : ℕ) → length x.word ≤ m → length y.word ≤ n → length (cond c x y).word ≤ 1 + (n + m)
-either true x y m n h g = omega arith
-either false x y m n h g = omega arith
 
 module _ (v : ℕ) where
   mutual
@@ -34,7 +32,10 @@ module _ (v : ℕ) where
     events_c fence ch r = omega arith
     events_c (get a) ch r = omega arith
     events_c (print a) ch r = omega arith
-    events_c (branch a t e) ch r = either (eqb (get_or r a 0) 0) (run_b v e ch r) (run_b v t ch r) (size_b e) (size_b t) (events_b e ch r) (events_b t ch r)
+    events_c (branch a t e) ch r =
+        let one = events_b e ch r in
+        let two = events_b t ch r in
+        cond_both (eqb (get_or r a 0) 0) (run_b v e ch r) (run_b v t ch r) (λ (o : Run). length o.word ≤ size_c (branch a t e)) (λ q. omega arith) (λ q. omega arith)
     events_c (declare a x b) ch r = let h = events_b b ch (set r a x) in omega arith
 
 word_size : (m : Sizes) (b : Block) (k : ℕ) → length (word_of m b k) ≤ size_b b
@@ -53,3 +54,9 @@ word_few s k =
 pub count_is : (s : Snippet) → count (sizes_of s) (program_of s) ≡ s.runs
 unfolding count
 count_is s = sym (s.powered ∙ ap (λ (n : ℕ). s.body.limits.values ^ (s.body.limits.registers + n)) s.counted)
+
+-- A snippet has few registers and choices, since its runs are few.
+pub few_choices : (s : Snippet) → Fits w8 (s.body.limits.registers + s.choices)
+few_choices s =
+    let few = few_digits s.body.limits.values (s.body.limits.registers + s.choices) s.body.limits.few_values (omega (arith, s.powered, s.bounded)) in
+    omega arith

@@ -7,9 +7,9 @@ use Rattle.std.proofs.lemmas.List.{take_at, drop_at}
 use Rattle.trace.specs.Limits.{SmallValues}
 use Rattle.runs.specs.Runs.{digits, nonzero}
 
-pub digits-length : (v m k : ℕ) → length (digits v m k) ≡ m
-digits-length v zero k = refl
-digits-length v (suc m) k = ap suc (digits-length v m (k / v))
+pub digits_length : (v m k : ℕ) → length (digits v m k) ≡ m
+digits_length v zero k = refl
+digits_length v (suc m) k = ap suc (digits_length v m (k / v))
 
 pub digits_small : (v m k : ℕ) → 0 < v → SmallValues v (digits v m k)
 digits_small v zero k h = tt
@@ -94,7 +94,7 @@ few_digits v n h l = ⊎_elim (λ p. omega arith) (λ p. absurd (never p)) (case
         omega arith
 
 pub lower_digits : (v a b k : ℕ) → take a (digits v (a + b) k) ≡ digits v a k
-lower_digits v a b k = ap (take a) (digits_split v a b k) ∙ take_at (digits v a k) (digits v b (k / v ^ a)) a (digits-length v a k)
+lower_digits v a b k = ap (take a) (digits_split v a b k) ∙ take_at (digits v a k) (digits v b (k / v ^ a)) a (digits_length v a k)
 
 pub upper_digits : (v a b k : ℕ) → drop a (digits v (a + b) k) ≡ digits v b (k / v ^ a)
-upper_digits v a b k = ap (drop a) (digits_split v a b k) ∙ drop_at (digits v a k) (digits v b (k / v ^ a)) a (digits-length v a k)
+upper_digits v a b k = ap (drop a) (digits_split v a b k) ∙ drop_at (digits v a k) (digits v b (k / v ^ a)) a (digits_length v a k)

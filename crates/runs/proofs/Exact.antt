@@ -1,7 +1,7 @@
 -- Behaviours are runs. A word shows the choices that were taken, so a behaviour's run takes those, and is 0 in the others.
 use Rattle.std.proofs.Common.{◌≡◌, ℕ, zero, suc, ◌+◌, ◌-◌, ◌/◌, ◌^◌, ◌<◌, ◌≤◌, Bool, true, false, cond, eqb, List, [], ◌∷◌, ◌++◌, length, get_or, take, drop, set, replicate, sym, refl, ap, ◌∙◌, append_assoc, arith, length-append}
 use Rattle.std.proofs.lemmas.List.{length-replicate, take_at, drop_at}
-use Rattle.std.proofs.lemmas.Bool.{eq-eqb, ne_eqb, eqb-true, eqb-false}
+use Rattle.std.proofs.lemmas.Bool.{eq-eqb, ne_eqb, eqb-true, eqb-false, cond_both}
 use Rattle.trace.specs.Words.{Word, Registers, Behaviour, behaviour}
 use Rattle.trace.specs.Limits.{SmallValues}
 use Rattle.trace.specs.declared.event.Event.TheVariants.{Load, Store, LoadStore, Fence, Get, Print}
@@ -10,7 +10,7 @@ use Rattle.snippet.specs.Keeps.{Sizes}
 use Rattle.runs.specs.Behaviours.{behaves_b, behaves_c, StartRegisters, Behaves}
 use Rattle.runs.specs.Runs.{digits, first, others, Run, ran, run_b, run_c, start_of, choices_of, run_of, nonzero, count, Active}
 use Rattle.runs.specs.Exact.{Shows, BehavioursAreRuns}
-use Rattle.runs.proofs.Digits.{number, digits-length, digits_small, number_digits, digits_number, number_below, digits_split, lower_digits, upper_digits}
+use Rattle.runs.proofs.Digits.{number, digits_length, digits_small, number_digits, digits_number, number_below, digits_split, lower_digits, upper_digits}
 
 -- The choices that a word shows.
 abbrev chosen : Word → List ℕ
@@ -35,10 +35,6 @@ chosen-append (Print x ∷ w) u = chosen-append w u
 
 join_runs : (v : ℕ) (s : Command) (b : Block) (ch r : List ℕ) (w : Word) (m cs : List ℕ) (u : Run) → run_c v s ch r ≡ ran w m cs → run_b v b cs m ≡ u → run_b v (then s b) ch r ≡ ran (w ++ u.word) u.registers u.rest
 join_runs v s b ch r w m cs u e f = rw e (rw f refl)
-
-pick : {A : Type 0} (c : Bool) (n : ℕ) (x y g : A) → eqb n 0 ≡ c → (n ≡ 0 → x ≡ g) → ((n ≡ 0 → ⊥) → y ≡ g) → cond c x y ≡ g
-pick true n x y g e f h = f (eqb-true n 0 e)
-pick false n x y g e f h = h (eqb-false n 0 e)
 
 module _ (v : ℕ) where
   mutual
@@ -67,7 +63,11 @@ module _ (v : ℕ) where
     follow_c (get a) r w z h tail = rw (h.2, h.3) refl
     follow_c (print a) r w z h tail = rw (h.0, h.1) refl
     follow_c (branch a t e) r w z h tail =
-        pick (eqb (get_or r a 0) 0) (get_or r a 0) _ _ _ refl (λ q. follow_b e r w z (h.0 q) tail) (λ q. follow_b t r w z (h.1 q) tail)
+        let n = get_or r a 0 in
+        let ch = chosen w ++ tail in
+        cond_both (eqb n 0) (run_b v e ch r) (run_b v t ch r) (λ (o : Run). o ≡ ran w z tail)
+        (λ q. follow_b e r w z (h.0 (eqb-true n 0 q)) tail)
+        (λ q. follow_b t r w z (h.1 (eqb-false n 0 q)) tail)
     follow_c (declare a x b) r w z h tail = rw h.2 (rw (follow_b b (set r a x) w h.0 h.1 tail) refl)
 
 -- ---- the choices that a behaviour shows are few and small
@@ -125,10 +125,6 @@ left_one v [] = (omega arith, λ h. h, λ l. absurd (never l))
     never l = omega arith
 left_one v (x ∷ xs) = (omega arith, λ h. h.1, λ l. refl)
 
-left_pick : (c : Bool) (v m₁ m₂ : ℕ) (ch : List ℕ) (x y : Run) → Left v m₁ ch x → Left v m₂ ch y → Left v (m₂ + m₁) ch (cond c x y)
-left_pick true v m₁ m₂ ch x y h g = (omega (arith, h.0), h.1, λ l. h.2 (omega arith))
-left_pick false v m₁ m₂ ch x y h g = (omega (arith, g.0), g.1, λ l. g.2 (omega arith))
-
 none : (v : ℕ) (ch : List ℕ) → (length ch ≤ 0 + length ch) × (SmallValues v ch → SmallValues v ch) × (0 ≤ length ch → ch ≡ ch)
 none v ch = (omega arith, λ h. h, λ l. refl)
 
@@ -160,7 +156,11 @@ module _ (v : ℕ) where
     left_c (get a) ch r = left_one v ch
     left_c (print a) ch r = none v ch
     left_c (branch a t e) ch r =
-        left_pick (eqb (get_or r a 0) 0) v (choices_b e) (choices_b t) ch (run_b v e ch r) (run_b v t ch r) (left_b e ch r) (left_b t ch r)
+        let one = left_b e ch r in
+        let two = left_b t ch r in
+        cond_both (eqb (get_or r a 0) 0) (run_b v e ch r) (run_b v t ch r) (Left v (choices_c (branch a t e)) ch)
+        (λ q. (omega (arith, one.0), one.1, λ l. one.2 (omega arith)))
+        (λ q. (omega (arith, two.0), two.1, λ l. two.2 (omega arith)))
     left_c (declare a x b) ch r = left_b b ch (set r a x)
 
 -- ---- from a run to a behaviour
@@ -256,7 +256,7 @@ module _ (m : Sizes) (b : Block) (two : 2 ≤ m.values) where
 
   pub choices-length : (k : ℕ) → length (choices_of m b k) ≡ choices_b b
   unfolding choices_of
-  choices-length k = digits-length m.values (choices_b b) (k / m.values ^ m.registers)
+  choices-length k = digits_length m.values (choices_b b) (k / m.values ^ m.registers)
 
   -- A run's word shows the choices that it takes, and the others are left.
   split_choices : (k : ℕ) → choices_of m b k ≡ chosen (run_of m b k).word ++ (run_of m b k).rest
@@ -322,7 +322,7 @@ module _ (m : Sizes) (b : Block) (two : 2 ≤ m.values) where
   unfolding start_of choices_of run_of
   behave k a =
       record {
-        starts = record { many = digits-length m.values m.registers k; small = digits_small m.values m.registers k (omega arith) };
+        starts = record { many = digits_length m.values m.registers k; small = digits_small m.values m.registers k (omega arith) };
         goes = back_b m.values (omega arith) b (choices_of m b k) (start_of m k) (digits_small m.values (choices_b b) (k / m.values ^ m.registers) (omega arith));
       }
 

@@ -1,12 +1,19 @@
 -- Words laid over the caller's events.
-use Rattle.std.proofs.Common.{◌≡◌, ℕ, suc, ◌+◌, ◌<◌, ◌≤◌, List, [], ◌∷◌, ◌++◌, length, take, drop, Ok, Err, Result, sym, refl, ap, ◌∙◌, append-nil, arith, length-append, take-append-drop, length-take}
+use Rattle.std.proofs.Common.{◌≡◌, ℕ, suc, ◌+◌, ◌<◌, ◌≤◌, List, [], ◌∷◌, ◌++◌, length, get_or, take, drop, Ok, Err, Result, sym, refl, ap, ◌∙◌, append-nil, arith, length-append, take-append-drop, length-take}
 use lib.Seq.{sets, set_out, length-sets, drop-length}
-use Rattle.trace.specs.Words.{Word, Registers}
+use Rattle.trace.specs.Words.{Word}
 use Rattle.trace.proofs.Lists.{sets-append, sets_start}
-use Rattle.snippet.specs.Program.{Block, Command, then}
-use Rattle.runs.specs.Runs.{Run, ran, run_b, run_c}
-use Rattle.runs.specs.Walk.{Finished, Ends}
+use Rattle.snippet.specs.Program.{Command}
+use Rattle.runs.specs.Runs.{Run, ran, run_b}
+use Rattle.snippet.specs.Layout.{after, command_of, block}
+use Rattle.snippet.specs.declared.statement.Statement.{Statement}
+use Rattle.snippet.specs.declared.statement.Statement.TheVariants.{Skip}
+use Rattle.snippet.proofs.Blocks.{block_then}
+use Rattle.runs.specs.Held.{held, remaining}
+use Rattle.runs.specs.Walk.{Ends, block_in, Walks, of_block, of_command}
+use Rattle.runs.specs.declared.machine.Machine.{Machine}
 use Rattle.runs.specs.declared.full.Full.{Full}
+use Rattle.runs.specs.declared.span.Span.{Span}
 
 sets_out : (xs : Word) (i : ℕ) (a : Word) → length xs ≤ i → sets xs i a ≡ xs
 sets_out xs i [] h = refl
@@ -25,29 +32,54 @@ ends_on one two room at (Ok u) rs cs n h =
     record { fits = omega (arith, h.fits); written = omega (arith, h.written); registers = h.registers; rest = h.rest }
 ends_on one two room at (Err e) rs cs n h = omega (arith, length-append one.word two.word)
 
--- A block's first command `s` and the others `m`.
-module _ {b : Block} {s : Command} {m : Block} (is : b ≡ then s m) (v : ℕ) (ch : List ℕ) (r : Registers) (ev : Word) (at : ℕ) where
-  -- The events run out in the first command, so in the block.
-  pub stopped : (ev' : Word) → ev' ≡ sets ev at (run_c v s ch r).word → length ev < at + length (run_c v s ch r).word → (ev' ≡ sets ev at (run_b v b ch r).word) × (length ev < at + length (run_b v b ch r).word)
-  stopped ev' laid full =
-      let one = run_c v s ch r in
-      let two = run_b v m one.rest one.registers in
-      rw is (laid ∙ sym (sets_full ev at one.word two.word (omega arith)), omega (arith, length-append one.word two.word))
+-- A machine `m` stands at the first statement of a block.
+module _ (m : Machine) (span : Span) (h : span.at < span.to) where
+  abbrev statements : List Statement
+  statements = m.body.now.statements
 
-  -- The first command is carried out, and the others decide.
-  pub carried : (ev₁ ev₂ : Word) (r₁ c₁ r₂ c₂ : List ℕ) (n₁ n₂ : ℕ) (o : Result (Unit {0}) Full)
-      → ev₁ ≡ sets ev at (run_c v s ch r).word
-      → Finished (run_c v s ch r) (length ev) at r₁ c₁ n₁
-      → ev₂ ≡ sets ev₁ n₁ (run_b v m c₁ r₁).word
-      → Ends o (run_b v m c₁ r₁) (length ev₁) n₁ r₂ c₂ n₂
-      → (ev₂ ≡ sets ev at (run_b v b ch r).word) × Ends o (run_b v b ch r) (length ev) at r₂ c₂ n₂
-  carried ev₁ ev₂ r₁ c₁ r₂ c₂ n₁ n₂ o laid done others ends =
-      let one = run_c v s ch r in
-      let two = run_b v m one.rest one.registers in
-      let same : run_b v m c₁ r₁ ≡ two = rw (done.registers, done.rest) refl in
-      let room : length ev₁ ≡ length ev = ap length laid ∙ length-sets ev at one.word in
-      let on : Ends o two (length ev) (at + length one.word) r₂ c₂ n₂ = rw (← same, ← room, ← done.written) ends in
-      rw is (others ∙ rw (same, laid, done.written) (sym (sets-append ev at one.word two.word)), ends_on one two (length ev) at o r₂ c₂ n₂ on)
+  abbrev command : Command
+  command = command_of (block statements) (get_or statements span.at Skip) span.at span.to
+
+  abbrev one : Run
+  one = of_command m command
+
+  abbrev whole : Run
+  whole = of_block m (block_in m.body.now span)
+
+  -- The events run out in the statement, so in the block.
+  pub stopped : (n : Machine) (e : Full) → Walks one m n (Err e) → Walks whole m n (Err e)
+  stopped n e w =
+      let ev = m.events.now in
+      let others = block statements (after (get_or statements span.at Skip) span.at span.to) span.to in
+      let two = run_b m.body.now.limits.values others one.rest one.registers in
+      rw (block_then statements span.at span.to h)
+      record {
+        body = w.body;
+        same = w.same;
+        events = w.events ∙ sym (sets_full ev m.written one.word two.word (omega (arith, w.ends)));
+        ends = omega (arith, w.ends, length-append one.word two.word);
+      }
+
+  -- The statement is carried out, and the others decide.
+  pub carried : (n p : Machine) (rest : Span) (o : Result (Unit {0}) Full)
+      → Walks one m n (Ok tt)
+      → rest.at ≡ after (get_or statements span.at Skip) span.at span.to
+      → rest.to ≡ span.to
+      → Walks (of_block n (block_in n.body.now rest)) n p o
+      → Walks whole m p o
+  carried n p rest o w at to others =
+      let ev = m.events.now in
+      let two = run_b m.body.now.limits.values (block statements (after (get_or statements span.at Skip) span.at span.to) span.to) one.rest one.registers in
+      let same : of_block n (block_in n.body.now rest) ≡ two = rw (w.body, at, to, w.ends.registers, w.ends.rest) refl in
+      let room : length n.events.now ≡ length ev = ap length w.events ∙ length-sets ev m.written one.word in
+      let on : Ends o two (length ev) (m.written + length one.word) (held p.registers) (remaining p.choices) p.written = rw (← same, ← room, ← w.ends.written) others.ends in
+      rw (block_then statements span.at span.to h)
+      record {
+        body = others.body ∙ w.body;
+        same = others.same ∙ w.same;
+        events = others.events ∙ rw (same, w.events, w.ends.written) (sym (sets-append ev m.written one.word two.word));
+        ends = ends_on one two (length ev) m.written o _ _ _ on;
+      }
 
 -- A word laid from the first place on, where there is not enough room.
 pub sets_short : (ev w : Word) → length ev < 0 + length w → sets ev 0 w ≡ take (length ev) w

@@ -3,3 +3,4 @@ pub mod Exact
 pub mod Laid
 pub mod Bounds
 pub mod Idle
+pub mod Taking

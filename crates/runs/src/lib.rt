@@ -4,9 +4,11 @@
 
 mod choices;
 mod full;
+mod machine;
 mod ran;
 mod registers;
 mod runner;
+mod span;
 
 pub use ran::Ran;
 pub use registers::Registers;

@@ -1,57 +1,21 @@
-ghost use Rattle.std.specs.Prelude.{◌≡◌, ◌^◌, ◌<◌, ◌≤◌, [], ◌∷◌, ◌++◌, length, take, drop};
+ghost use Rattle.std.specs.Prelude.{◌≡◌, ◌<◌, ◌≤◌, length, take, drop, OnOk, IfOk, IfErr};
+ghost use Rattle.trace.specs.declared.refusal.Cause.TheVariants.{NoSuchRun};
 ghost use Rattle.snippet.specs.Meant.{sizes_of, program_of};
-ghost use Rattle.runs.specs.Runs.{digits, nonzero, start_of, choices_of};
+ghost use Rattle.runs.specs.Runs.{start_of, choices_of, count};
 ghost use Rattle.runs.specs.Exact.{BehavioursAreRuns};
 ghost use Rattle.runs.specs.Held.{held, remaining};
-ghost use Rattle.runs.specs.Answers.{StartAnswer, RunAnswer};
+ghost use Rattle.runs.specs.Answers.{declined, StartAnswer, RunAnswer};
 
-use super::run_block;
 use crate::choices::Choices;
-use crate::full::Full;
+use crate::machine::Machine;
 use crate::ran::Ran;
 use crate::registers::Registers;
+use crate::span::Span;
 use snippet::Snippet;
 use trace::{Cause, Event, Refusal};
 
-impl Choices {
-    fn new(base: u8, count: u8, number: u16) -> Choices
-        requires { (2 ≤ base) × (number < base ^ count) }
-        ensures { remaining result ≡ digits base count number }
-    {
-        Choices {
-            base,
-            left: count,
-            rest: number,
-        }
-    }
-
-    // How many choices are left.
-    fn left(&self) -> u8
-        ensures { result ≡ length (remaining self.now) }
-    {
-        self.left
-    }
-
-    // Whether a choice that is left is not 0.
-    fn idle(&self) -> bool
-        ensures { result ≡ nonzero (remaining self.now) }
-    {
-        self.rest != 0
-    }
-}
-
-impl Registers {
-    // One more register.
-    fn push(&mut self, value: u8)
-        requires { length (held self.old) < 4 }
-        ensures { held self.new ≡ held self.old ++ (value ∷ []) }
-    {
-        self.values[self.count as usize] = value;
-        self.count += 1;
-    }
-}
-
 // So many digits into as many registers.
+#[tactic(auto, using(crate::proofs::Taking::take_first, crate::proofs::Taking::drop_first))]
 fn first_registers(choices: &mut Choices, count: u8) -> Registers
     requires few { count ≤ 4 }
     requires there { count ≤ length (remaining choices.old) }
@@ -65,76 +29,38 @@ fn first_registers(choices: &mut Choices, count: u8) -> Registers
     registers
 }
 
-// The start registers of a run, and its choices.
-fn opened(snippet: &Snippet, number: u16) -> (Registers, Choices)
-    requires { number < snippet.now.runs }
-    ensures start { held result.0 ≡ start_of (sizes_of snippet.now) number }
-    ensures choices { remaining result.1 ≡ choices_of (sizes_of snippet.now) (program_of snippet.now) number }
+// The start registers of a run, and its choices. Declined if there is no such run.
+#[tactic(auto, using(crate::proofs::Bounds::count_is, crate::proofs::Digits::digits_length, crate::proofs::Digits::lower_digits, crate::proofs::Digits::upper_digits), unfolding(crate::specs::Runs::start_of, crate::specs::Runs::choices_of))]
+fn opened(snippet: &Snippet, number: u16) -> Result<(Registers, Choices), Refusal>
+    ensures there { OnOk result (number < count (sizes_of snippet.now) (program_of snippet.now)) }
+    ensures start { IfOk result (λ o. held o.0 ≡ start_of (sizes_of snippet.now) number) }
+    ensures choices { IfOk result (λ o. remaining o.1 ≡ choices_of (sizes_of snippet.now) (program_of snippet.now) number) }
+    ensures none { IfErr result (λ e. (count (sizes_of snippet.now) (program_of snippet.now) ≤ number) × (e ≡ declined NoSuchRun)) }
 {
+    if number >= snippet.runs {
+        return Err(Refusal {
+            cause: Cause::NoSuchRun,
+            place: 0,
+        });
+    }
     let limits = snippet.body.limits;
     let mut choices = Choices::new(limits.values, limits.registers + snippet.choices, number);
     let registers = first_registers(&mut choices, limits.registers);
-    (registers, choices)
+    Ok((registers, choices))
 }
 
 /// The registers from which the run of that number starts. Declined with `NoSuchRun` if there is none.
 pub fn start_registers(snippet: &Snippet, number: u16) -> Result<Registers, Refusal>
     ensures { StartAnswer (sizes_of snippet.now) (program_of snippet.now) number result }
 {
-    if number >= snippet.runs {
-        return Err(Refusal {
-            cause: Cause::NoSuchRun,
-            place: 0,
-        });
-    }
-    let (registers, _) = opened(snippet, number);
+    let (registers, _) = opened(snippet, number)?;
     Ok(registers)
-}
-
-fn carry_out(
-    snippet: &Snippet,
-    number: u16,
-    events: &mut [Event],
-    registers: &mut Registers,
-) -> Result<Ran, Refusal>
-    ensures { RunAnswer (sizes_of snippet.now) (program_of snippet.now) number registers.old registers.new events.old events.new result }
-{
-    if number >= snippet.runs {
-        return Err(Refusal {
-            cause: Cause::NoSuchRun,
-            place: 0,
-        });
-    }
-    let (mut working, mut choices) = opened(snippet, number);
-    let mut written = 0;
-    match run_block(
-        &snippet.body,
-        0,
-        snippet.body.len,
-        &mut choices,
-        &mut working,
-        events,
-        &mut written,
-    ) {
-        Ok(()) => {
-            *registers = working;
-            let taken = snippet.choices - choices.left();
-            Ok(Ran {
-                length: written,
-                taken: taken as usize,
-                idle: choices.idle(),
-            })
-        }
-        Err(Full) => Err(Refusal {
-            cause: Cause::NoRoom,
-            place: 0,
-        }),
-    }
 }
 
 /// Carries out the run of that number: its word goes into the events, and its end registers into the
 /// registers. Declined with `NoSuchRun` if there is no such run, and with `NoRoom` if the events are too few
 /// for its word; they then hold its beginning.
+#[tactic(auto, using(crate::proofs::Exact::behaviours_are_runs, crate::proofs::Laid::sets_short, trace::proofs::Lists::sets_start), unfolding(crate::specs::Runs::run_of))]
 pub fn run(
     snippet: &Snippet,
     number: u16,
@@ -144,5 +70,20 @@ pub fn run(
     ensures answer { RunAnswer (sizes_of snippet.now) (program_of snippet.now) number registers.old registers.new events.old events.new result }
     ensures exact { BehavioursAreRuns (sizes_of snippet.now) (program_of snippet.now) }
 {
-    carry_out(snippet, number, events, registers)
+    let (start, choices) = opened(snippet, number)?;
+    let mut machine = Machine {
+        body: &snippet.body,
+        choices,
+        registers: start,
+        events,
+        written: 0,
+    };
+    machine.run_block(Span::whole(&snippet.body))?;
+    *registers = machine.registers;
+    let taken = snippet.choices - machine.choices.left();
+    Ok(Ran {
+        length: machine.written,
+        taken: usize::from(taken),
+        idle: machine.choices.idle(),
+    })
 }

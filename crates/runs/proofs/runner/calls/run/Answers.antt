@@ -1,8 +1,12 @@
+use Rattle.std.proofs.Common.{rules}
 use Rattle.snippet.specs.Meant.{sizes_of, program_of}
-use Rattle.runs.proofs.Exact.{behaviours_are_runs}
+use Rattle.runs.specs.Runs.{run_of}
+use Rattle.runs.proofs.Exact.{rest_few}
 use Rattle.runs.proofs.runner.calls.run.Goals as goal
 
-pub returns : goal.returns
-returns c =
+pub overflow_sub-taken : goal.overflow_sub-taken
+unfolding run_of
+overflow_sub-taken c =
     let s = c.args.snippet.now in
-    record { answer = c.carry_out.ensures; exact = behaviours_are_runs (sizes_of s) (program_of s) s.body.limits.few_values }
+    let few = rest_few (sizes_of s) (program_of s) s.body.limits.few_values c.args.number in
+    search rules
