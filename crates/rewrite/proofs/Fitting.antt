@@ -128,7 +128,7 @@ module _ (v l : ℕ) (s : Step) (w : Word) where
   }
 
   pub make_put : rule_of s.rule ≡ Some NewLoad → s.location < l → s.value < v → s.place ≤ length w
-      → Fits v l s w (take s.place w ++ ((load s.location s.value ∷ []) ++ drop (s.place + 0) w)) Nothing
+      → Fits v l s w (take s.place w ++ ((load s.location s.value ∷ []) ++ drop s.place w)) Nothing
   make_put r lo va h = record {
     rule = NewLoad;
     number = r;
@@ -136,9 +136,9 @@ module _ (v l : ℕ) (s : Step) (w : Word) where
     u = take s.place w;
     X = [];
     Y = load s.location s.value ∷ [];
-    t = drop (s.place + 0) w;
+    t = drop s.place w;
     place = length-take-le s.place w h;
-    from = sym (take-append-drop s.place w) ∙ ap (λ (i : ℕ). take s.place w ++ drop i w) (omega arith);
+    from = sym (take-append-drop s.place w);
     to = refl;
     turns = new_load;
   }

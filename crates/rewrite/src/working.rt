@@ -3,10 +3,13 @@ ghost use Rattle.std.specs.Prelude.{◌≤◌};
 use ordering::Removal;
 use trace::{Access, Event};
 
+// How many events a working word has at most.
+pub(crate) const MOST: usize = 48;
+
 /// The word that the steps work on: at most 48 events.
 #[derive(Clone, Copy)]
 pub struct Working {
-    pub(crate) events: [Event; 48],
+    pub(crate) events: [Event; MOST],
     pub(crate) len: usize,
     ghost room: { len ≤ 48 },
 }
