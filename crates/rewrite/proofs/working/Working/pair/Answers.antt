@@ -1,5 +1,4 @@
 use Rattle.std.proofs.Common.{◌+◌, sym, refl, arith}
-use Rattle.rewrite.specs.Steps.{word}
 use Rattle.rewrite.proofs.Fitting.{fit_pair, make_pair, fits_one, word_long, word_short, word_at}
 use Rattle.rewrite.proofs.working.Working.pair.Goals as goal
 
@@ -25,9 +24,8 @@ returns-in_default g c v l =
 
 pub returns-then-not-ask : goal.returns-then-not-ask
 returns-then-not-ask g c v l =
-    let W = c.args.self.now in
     let s = c.args.step in
-    let F = make_pair v l s (word W) c.args.rule c.requires.number c.requires.pairs (omega arith) (omega arith) (omega (arith, word_long W (omega arith))) _ _ _ _ _ _ (word_at W s.place _ (omega arith)) (word_at W (s.place + 1) _ (omega arith)) (c.in-Some.ensures s.location s.value) in (
+    let F = make_pair v l s c.args.self.now (omega arith) c.requires.number c.requires.pairs (omega arith) (omega arith) (omega arith) _ _ (c.in-Some.ensures s.location s.value) in (
       refl,
       (_, _, F),
       λ w (q, G, y).
@@ -38,7 +36,6 @@ returns-then-not-ask g c v l =
 
 pub returns : goal.returns
 returns g c v l =
-    let W = c.args.self.now in
     let s = c.args.step in
-    let F = make_pair v l s (word W) c.args.rule c.requires.number c.requires.pairs (omega arith) (omega arith) (omega (arith, word_long W (omega arith))) _ _ _ _ _ _ (word_at W s.place _ (omega arith)) (word_at W (s.place + 1) _ (omega arith)) (c.in-Some.ensures s.location s.value) in
+    let F = make_pair v l s c.args.self.now (omega arith) c.requires.number c.requires.pairs (omega arith) (omega arith) (omega arith) _ _ (c.in-Some.ensures s.location s.value) in
     ((c.in-Some.question, rw c.turn.ensures F, sym c.if-not-ask.ensures), word_short c.turn.new.self)

@@ -1,6 +1,5 @@
 use Rattle.std.proofs.Common.{refl, arith}
 use Rattle.rewrite.specs.declared.working.Question.TheVariants.{Nothing}
-use Rattle.rewrite.specs.Steps.{word}
 use Rattle.rewrite.proofs.Fitting.{fit_put, make_put, put_long, word_long, word_short}
 use Rattle.rewrite.proofs.working.Working.put.Goals as goal
 
@@ -17,13 +16,10 @@ returns-then-step-ranges c m = (
 pub returns-then-self-eq-MOST : goal.returns-then-self-eq-MOST
 returns-then-self-eq-MOST c m =
     let W = c.args.self.now in
-    let n = word_long W (omega arith) in
-    let F = make_put c.args.ranges.values c.args.ranges.locations c.args.step (word W) c.requires (omega arith) (omega arith) (omega arith) in
-    (refl, (_, (Nothing, F, refl), omega (arith, put_long F c.requires)))
+    let F = make_put c.args.ranges.values c.args.ranges.locations c.args.step W (omega arith) c.requires (omega arith) (omega arith) (omega arith) in
+    (refl, (_, (Nothing, F, refl), omega (arith, word_long W (omega arith), put_long F c.requires)))
 
 pub returns : goal.returns
 returns c m =
-    let W = c.args.self.now in
-    let n = word_long W (omega arith) in
-    let F = make_put c.args.ranges.values c.args.ranges.locations c.args.step (word W) c.requires (omega arith) (omega arith) (omega arith) in
+    let F = make_put c.args.ranges.values c.args.ranges.locations c.args.step c.args.self.now (omega arith) c.requires (omega arith) (omega arith) (omega arith) in
     ((Nothing, rw c.splice.ensures F, refl), word_short c.splice.new.self)
