@@ -1,4 +1,5 @@
 ghost use Rattle.std.specs.Prelude.{◌≤◌};
+ghost use Rattle.rewrite.specs.declared.working.TheConstants.{MOST};
 
 use ordering::Removal;
 use trace::{Access, Event};
@@ -11,7 +12,7 @@ pub(crate) const MOST: usize = 48;
 pub struct Working {
     pub(crate) events: [Event; MOST],
     pub(crate) len: usize,
-    ghost room: { len ≤ 48 },
+    ghost room: { len ≤ MOST },
 }
 
 /// A step as it is written: a rule's number, a place, and for rule 7 a location and a value.
