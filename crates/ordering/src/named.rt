@@ -1,20 +1,28 @@
-ghost use Rattle.std.specs.Prelude.{◌≡◌};
-ghost use Rattle.ordering.specs.Table.{sc, ibm390, tso, pso, clr, tso_swaps, six_only};
+ghost use Rattle.std.specs.Prelude.{◌≡◌, ◌&&◌};
+ghost use Rattle.ordering.specs.Table.{sc, ibm390, tso, pso, clr, every, both, apart, tso_swaps, six_only};
 ghost use Rattle.std.proofs.Common.{rules};
 
 use crate::model::{Model as OrderingModel, Removal};
 use trace::{Access, Kind};
 
+// Whether the location is one of 0 to 7.
+fn in_range(location: u8) -> bool
+    ensures { result ≡ every location }
+{
+    location <= 7
+}
+
+// Whether the accesses are to two of them.
+fn are_apart(first: Access, second: Access) -> bool
+    ensures { result ≡ (both first second && apart first second) }
+{
+    in_range(first.location) && in_range(second.location) && first.location != second.location
+}
+
 fn store_then_load(first: Access, second: Access) -> bool
     ensures { result ≡ tso_swaps first second }
 {
-    if first.location > 7 || second.location > 7 {
-        return false;
-    }
-    match (first.kind, second.kind) {
-        (Kind::Store, Kind::Load) => first.location != second.location,
-        _ => false,
-    }
+    matches!((first.kind, second.kind), (Kind::Store, Kind::Load)) && are_apart(first, second)
 }
 
 fn load_after_store_only(removal: Removal, location: u8) -> bool
@@ -22,7 +30,7 @@ fn load_after_store_only(removal: Removal, location: u8) -> bool
 {
     match removal {
         Removal::StoreAfterLoad => false,
-        Removal::LoadAfterStore => location <= 7,
+        Removal::LoadAfterStore => in_range(location),
     }
 }
 
@@ -58,7 +66,7 @@ impl OrderingModel for Sc {
     }
 
     fn permits(&self, _removal: Removal, location: u8) -> bool {
-        location <= 7
+        in_range(location)
     }
 }
 
@@ -126,7 +134,7 @@ impl OrderingModel for Tso {
     }
 
     fn forwards_at(&self, location: u8) -> bool {
-        location <= 7
+        in_range(location)
     }
 
     fn permits(&self, removal: Removal, location: u8) -> bool {
@@ -158,21 +166,15 @@ impl OrderingModel for Pso {
     }
 
     fn may_swap(&self, first: Access, second: Access) -> bool {
-        if first.location > 7 || second.location > 7 {
-            return false;
-        }
-        match first.kind {
-            Kind::Store => first.location != second.location,
-            Kind::Load => false,
-        }
+        matches!(first.kind, Kind::Store) && are_apart(first, second)
     }
 
     fn forwards_at(&self, location: u8) -> bool {
-        location <= 7
+        in_range(location)
     }
 
     fn permits(&self, _removal: Removal, location: u8) -> bool {
-        location <= 7
+        in_range(location)
     }
 }
 
@@ -201,13 +203,13 @@ impl OrderingModel for Clr {
 
     fn may_swap(&self, first: Access, second: Access) -> bool {
         match (first.kind, second.kind) {
-            (Kind::Load, Kind::Load) => first.location <= 7 && second.location <= 7,
+            (Kind::Load, Kind::Load) => in_range(first.location) && in_range(second.location),
             _ => store_then_load(first, second),
         }
     }
 
     fn forwards_at(&self, location: u8) -> bool {
-        location <= 7
+        in_range(location)
     }
 
     fn permits(&self, removal: Removal, location: u8) -> bool {

@@ -1,5 +1,5 @@
 -- When a step fits.
-use Rattle.std.proofs.Common.{◌≡◌, ℕ, ◌+◌, ◌<◌, ◌≤◌, [], ◌∷◌, ◌++◌, length, get_or, take, drop, Some, sym, refl, ap, ◌∙◌, subst, ap₂, add_assoc, arith, length-take}
+use Rattle.std.proofs.Common.{◌≡◌, ◌↔◌, ℕ, ◌+◌, ◌<◌, ◌≤◌, [], ◌∷◌, ◌++◌, length, get_or, take, drop, Some, sym, refl, ap, ◌∙◌, subst, ap₂, add_assoc, arith, length-take}
 use Rattle.std.proofs.lemmas.List.{take-append-drop, take_at, drop_at, drop_more, length-append, length-take-le, get_or-take}
 use Rattle.std.proofs.lemmas.List.Prefix.{at_reads}
 use Rattle.trace.specs.declared.event.Event.{Event}
@@ -29,23 +29,15 @@ turns_one t t' load_store load_store h = (cc, cc)
 turns_one t t' store_load store_load h = (cc, cc)
 turns_one t t' new_load new_load h = (cc, cc)
 
-pub spare_pair : (v l : ℕ) (s : Step) (R : Rule) → (R ≡ NewLoad → ⊥) → Spare v l s R → (s.location ≡ 0) × (s.value ≡ 0)
-spare_pair v l s Swap n h = h
-spare_pair v l s Forward n h = h
-spare_pair v l s LoadAfterLoad n h = h
-spare_pair v l s StoreBeforeStore n h = h
-spare_pair v l s StoreAfterLoad n h = h
-spare_pair v l s LoadAfterStore n h = h
-spare_pair v l s NewLoad n h = absurd (n refl)
-
-pub pair_spare : (v l : ℕ) (s : Step) (R : Rule) → (R ≡ NewLoad → ⊥) → s.location ≡ 0 → s.value ≡ 0 → Spare v l s R
-pair_spare v l s Swap n h k = (h, k)
-pair_spare v l s Forward n h k = (h, k)
-pair_spare v l s LoadAfterLoad n h k = (h, k)
-pair_spare v l s StoreBeforeStore n h k = (h, k)
-pair_spare v l s StoreAfterLoad n h k = (h, k)
-pair_spare v l s LoadAfterStore n h k = (h, k)
-pair_spare v l s NewLoad n h k = absurd (n refl)
+-- on two events, the spare bytes are 0
+spare_pair : (v l : ℕ) (s : Step) (R : Rule) → (R ≡ NewLoad → ⊥) → Spare v l s R ↔ ((s.location ≡ 0) × (s.value ≡ 0))
+spare_pair v l s Swap n = (λ h. h, λ h. h)
+spare_pair v l s Forward n = (λ h. h, λ h. h)
+spare_pair v l s LoadAfterLoad n = (λ h. h, λ h. h)
+spare_pair v l s StoreBeforeStore n = (λ h. h, λ h. h)
+spare_pair v l s StoreAfterLoad n = (λ h. h, λ h. h)
+spare_pair v l s LoadAfterStore n = (λ h. h, λ h. h)
+spare_pair v l s NewLoad n = absurd (n refl)
 
 pair_shape : {K z : ℕ} {R : Rule} {X Y : Word} {q : Question} → Turns K z R X Y q → (R ≡ NewLoad → ⊥) → (e f : Event) × (X ≡ e ∷ f ∷ [])
 pair_shape (swap i j) n = (_, _, refl)
@@ -75,7 +67,7 @@ module _ {v l : ℕ} {s : Step} {w w'' : Word} {q : Question} (F : Fits v l s w 
   fit_pair {R} h n =
       let r = fit_rule h in
       let (e', f', x) = pair_shape F.turns (λ p. n (sym r ∙ p)) in
-      let sp = spare_pair v l s F.rule (λ p. n (sym r ∙ p)) F.spare in
+      let sp = (spare_pair v l s F.rule (λ p. n (sym r ∙ p))).0 F.spare in
       let two : length F.X ≡ 2 = ap length x in (
         sp.0,
         sp.1,
@@ -107,42 +99,6 @@ fits_one {s = s} {w} {a} {b} {q} {q'} F G =
     let o = turns_one F.t G.t F.turns T h in
     (F.to ∙ ap₂ (λ (x y : Word). x ++ y) k o.0 ∙ sym G.to, o.1)
 
-module _ (v l : ℕ) (s : Step) (w : Word) where
-  pub make_pair : (R : Rule) → rule_of s.rule ≡ Some R → (R ≡ NewLoad → ⊥) → s.location ≡ 0 → s.value ≡ 0 → s.place + 1 < length w
-      → (d d' e f : Event) (Y : Word) (q : Question) → e ≡ get_or w s.place d → f ≡ get_or w (s.place + 1) d' → Turns s.location s.value R (e ∷ f ∷ []) Y q
-      → Fits v l s w (take s.place w ++ (Y ++ drop (s.place + 2) w)) q
-  make_pair R r n lo va h d d' e f Y q p k t = record {
-    rule = R;
-    number = r;
-    spare = pair_spare v l s R n lo va;
-    u = take s.place w;
-    X = e ∷ f ∷ [];
-    Y = Y;
-    t = drop (s.place + 2) w;
-    place = length-take-le s.place w (omega arith);
-    from =
-        sym (take-append-drop s.place w)
-        ∙ ap (λ (y : Word). take s.place w ++ y) (drop_more w s.place d (omega arith) ∙ ap₂ (λ (x : Event) (y : Word). x ∷ y) (sym p) (drop_more w (s.place + 1) d' h ∙ ap₂ (λ (x : Event) (y : Word). x ∷ y) (sym k) (ap (λ (i : ℕ). drop i w) (add_assoc s.place 1 1))));
-    to = refl;
-    turns = t;
-  }
-
-  pub make_put : rule_of s.rule ≡ Some NewLoad → s.location < l → s.value < v → s.place ≤ length w
-      → Fits v l s w (take s.place w ++ ((load s.location s.value ∷ []) ++ drop (s.place + 0) w)) Nothing
-  make_put r lo va h = record {
-    rule = NewLoad;
-    number = r;
-    spare = (lo, va);
-    u = take s.place w;
-    X = [];
-    Y = load s.location s.value ∷ [];
-    t = drop (s.place + 0) w;
-    place = length-take-le s.place w h;
-    from = sym (take-append-drop s.place w) ∙ ap (λ (i : ℕ). take s.place w ++ drop i w) (omega arith);
-    to = refl;
-    turns = new_load;
-  }
-
 pub word_long : (W : Working) → length W.events ≡ 48 → length (word W) ≡ W.len
 word_long W h = length-take-le W.len W.events (omega (arith, W.room))
 
@@ -152,3 +108,47 @@ word_short W = omega (arith, W.room, length-take W.len W.events)
 -- an event of the word, as the code reads it
 pub word_at : (W : Working) (i : ℕ) (d : Event) → i < W.len → get_or W.events i d ≡ get_or (word W) i d
 word_at W i d h = sym (get_or-take W.len W.events i d h)
+
+-- what fits the word at a step's place
+module _ (v l : ℕ) (s : Step) (W : Working) (full : length W.events ≡ 48) where
+  pub make_pair : {R : Rule} → rule_of s.rule ≡ Some R → (R ≡ NewLoad → ⊥) → s.location ≡ 0 → s.value ≡ 0 → s.place + 1 < W.len
+      → (d d' : Event) {Y : Word} {q : Question} → Turns s.location s.value R (get_or W.events s.place d ∷ get_or W.events (s.place + 1) d' ∷ []) Y q
+      → Fits v l s (word W) (take s.place (word W) ++ (Y ++ drop (s.place + 2) (word W))) q
+  make_pair {R} r n lo va h d d' {Y} {q} t =
+      let w : Word = word W in
+      let long : length w ≡ W.len = word_long W full in
+      let two : drop s.place w ≡ get_or W.events s.place d ∷ get_or W.events (s.place + 1) d' ∷ drop (s.place + 2) w =
+      drop_more w s.place d (omega arith)
+      ∙ ap₂ (λ (x : Event) (y : Word). x ∷ y) (sym (word_at W s.place d (omega arith))) (drop_more w (s.place + 1) d' (omega arith) ∙ ap₂ (λ (x : Event) (y : Word). x ∷ y) (sym (word_at W (s.place + 1) d' h)) (ap (λ (i : ℕ). drop i w) (add_assoc s.place 1 1))) in
+      record {
+        rule = R;
+        number = r;
+        spare = (spare_pair v l s R n).1 (lo, va);
+        u = take s.place w;
+        X = get_or W.events s.place d ∷ get_or W.events (s.place + 1) d' ∷ [];
+        Y = Y;
+        t = drop (s.place + 2) w;
+        place = length-take-le s.place w (omega arith);
+        from = sym (take-append-drop s.place w) ∙ ap (λ (y : Word). take s.place w ++ y) two;
+        to = refl;
+        turns = t;
+      }
+
+  pub make_put : rule_of s.rule ≡ Some NewLoad → s.location < l → s.value < v → s.place ≤ W.len
+      → Fits v l s (word W) (take s.place (word W) ++ ((load s.location s.value ∷ []) ++ drop s.place (word W))) Nothing
+  make_put r lo va h =
+      let w : Word = word W in
+      let long : length w ≡ W.len = word_long W full in
+      record {
+        rule = NewLoad;
+        number = r;
+        spare = (lo, va);
+        u = take s.place w;
+        X = [];
+        Y = load s.location s.value ∷ [];
+        t = drop s.place w;
+        place = length-take-le s.place w (omega arith);
+        from = sym (take-append-drop s.place w);
+        to = refl;
+        turns = new_load;
+      }

@@ -1,7 +1,9 @@
 -- Chains of steps, and the theory's steps.
-use Rattle.std.proofs.Common.{◌≡◌, ℕ, ◌+◌, ◌<◌, ◌≤◌, true, ◌⊎◌, List, [], ◌∷◌, ◌++◌, length, get_or, take, drop, Err, sym, refl, ap, ◌∙◌, subst, ap₂, inl, inr, arith, length-take}
-use Rattle.std.proofs.lemmas.List.{take-append-drop, take-take, drop_more, take_more, take_all, get_or-take, get_or_default}
+use Rattle.std.proofs.Common.{◌≡◌, ℕ, ◌+◌, ◌<◌, ◌≤◌, true, ◌⊎◌, List, [], ◌∷◌, ◌++◌, length, get_or, take, drop, Ok, Err, Result, MatchResult, sym, refl, ap, ◌∙◌, subst, ap₂, inl, inr, arith, length-take}
+use Rattle.std.proofs.lemmas.List.{take-append-drop, take-take, drop_more, take_more, get_or-take, get_or_default}
 use Rattle.std.proofs.lemmas.Bool.{cases_order}
+use Rattle.std.proofs.lemmas.Result.{err_from_is_err_and}
+use Rattle.std.specs.Result.{IsErrAnd}
 use Rattle.trace.specs.Words.{Word}
 use Rattle.ordering.specs.Meaning.{Meaning}
 use Rattle.surroundings.specs.Steps.{Relax, Invisible, here, rule3, rule4, rule5, rule6, rule7, done, next, Reaches}
@@ -66,7 +68,7 @@ module _ {m : Meaning} where
   no_chain ts none r (more t n d) = r _ t n
   no_chain {v} {l} {s = s} ts {c = c} (more {ss = ss} t n d) r (more t' n' d') = no_chain ts d r (subst (λ (x : Word). Chain m v l (ss ++ s ∷ ts) x c) (sym (fits_one t.1 t'.1).0) d')
 
-  -- the loop: it stops at a step, goes on past one, ends
+  -- the loop: it stops at a step, or goes on past one
   module _ (v l : ℕ) (ss : List Step) (i : ℕ) (w b : Word) (z : Step) (ch : Chain m v l (take i ss) w b) where
     pub stopped : (b' : Word) (d : Denied) → i < length ss → Applied m v l (get_or ss i z) b (Err d) b' → Replayed m v l ss w (Err (record { step = i; why = d })) b'
     stopped b' d h r =
@@ -81,8 +83,15 @@ module _ {m : Meaning} where
     pub went_on : (b' : Word) → i < length ss → Takes m v l (get_or ss i z) b b' → length b' ≤ 48 → Chain m v l (take (i + 1) ss) w b'
     went_on b' h t n = subst (λ (y : List Step). Chain m v l y w b') (sym (take_more ss i z h)) (chain_push ch t n)
 
-    pub ended : length ss ≤ i → Chain m v l ss w b
-    ended h = subst (λ (y : List Step). Chain m v l y w b) (take_all i ss h) ch
+-- what came of a step whose denial is told by another error
+module _ (P : Denied → Stopped → Type 0) {m : Meaning} {v l : ℕ} {s : Step} {w w' : Word} where
+  pub told_ok : (r : Result (Unit {0}) Denied) (r' : Result (Unit {0}) Stopped) → MatchResult r (λ u. r' ≡ Ok u) (λ d. IsErrAnd r' (P d)) → {u : Unit {0}} → r' ≡ Ok u → Applied m v l s w r w' → Takes m v l s w w' × (length w' ≤ 48)
+  told_ok (Ok u) r' c e a = a
+  told_ok (Err d) r' c e a = let (y, p, q) = err_from_is_err_and r' c in cc
+
+  pub told_err : (r : Result (Unit {0}) Denied) (r' : Result (Unit {0}) Stopped) → MatchResult r (λ u. r' ≡ Ok u) (λ d. IsErrAnd r' (P d)) → {e : Stopped} → r' ≡ Err e → Applied m v l s w r w' → (d : Denied) × P d e × Applied m v l s w (Err d) w'
+  told_err (Ok u) r' c h a = cc
+  told_err (Err d) r' c {e} h a = let (y, p, q) = err_from_is_err_and r' c in let k : y ≡ e = cc in (d, subst (λ (z : Stopped). P d z) k q, a)
 
 -- a step is denied for one reason
 denied_one : (m : Meaning) (v l : ℕ) (s : Step) (w : Word) (d d' : Denied) → Applied m v l s w (Err d) w → Applied m v l s w (Err d') w → d ≡ d'

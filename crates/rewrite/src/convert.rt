@@ -6,7 +6,7 @@ ghost use Rattle.rewrite.specs.Steps.{rule_of};
 use crate::working::{Denied, Rule, Stopped};
 use trace::{Cause, Refusal};
 
-// the rule that a number stands for
+/// The rule of a number from 1 to 7. A step of any other number does not fit.
 impl TryFrom<u8> for Rule {
     type Error = Denied;
 
@@ -26,6 +26,7 @@ impl TryFrom<u8> for Rule {
     }
 }
 
+/// The cause of the same name.
 impl From<Denied> for Cause {
     ghost from_gives = { λ why r. r ≡ cause_of why };
 
@@ -38,6 +39,7 @@ impl From<Denied> for Cause {
     }
 }
 
+/// That cause, with the step as the place.
 impl From<Stopped> for Refusal {
     ghost from_gives = { λ stopped r. r ≡ refusal_of stopped };
 

@@ -43,19 +43,13 @@ fn fits(rule: Rule, e: Event, f: Event) -> Option<Question>
         }
         (Rule::StoreAfterLoad, Event::Load { location, value }) => {
             let store = Event::Store { location, value };
-            if_same(
-                f,
-                store,
-                Question::Permits(Removal::StoreAfterLoad, location),
-            )
+            let question = Question::Permits(Removal::StoreAfterLoad, location);
+            if_same(f, store, question)
         }
         (Rule::LoadAfterStore, Event::Store { location, value }) => {
             let load = Event::Load { location, value };
-            if_same(
-                f,
-                load,
-                Question::Permits(Removal::LoadAfterStore, location),
-            )
+            let question = Question::Permits(Removal::LoadAfterStore, location);
+            if_same(f, load, question)
         }
         _ => None,
     }

@@ -1,14 +1,18 @@
 ghost use Rattle.std.specs.Prelude.{◌≤◌};
+ghost use Rattle.rewrite.specs.declared.working.TheConstants.{MOST};
 
 use ordering::Removal;
 use trace::{Access, Event};
 
+// How many events a working word has at most.
+pub(crate) const MOST: usize = 48;
+
 /// The word that the steps work on: at most 48 events.
 #[derive(Clone, Copy)]
 pub struct Working {
-    pub(crate) events: [Event; 48],
+    pub(crate) events: [Event; MOST],
     pub(crate) len: usize,
-    ghost room: { len ≤ 48 },
+    ghost room: { len ≤ MOST },
 }
 
 /// A step as it is written: a rule's number, a place, and for rule 7 a location and a value.

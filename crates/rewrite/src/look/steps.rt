@@ -1,12 +1,13 @@
-ghost use Rattle.std.specs.Prelude.{◌≡◌, ◌+◌, ◌≤◌, ◌++◌, length, take, drop, Some, MatchBool, ◌≢◌};
+ghost use Rattle.std.specs.Prelude.{◌≡◌, ◌+◌, ◌-◌, ◌≤◌, ◌++◌, ℕ, length, take, drop, Some, MatchBool, ◌≢◌};
 ghost use Rattle.rewrite.specs.Steps.{word, rule_of, Applied, Replayed, StepsAreSure, ChainsReach};
 ghost use Rattle.ordering.specs.Meaning.{Meaning};
 ghost use Rattle.rewrite.specs.declared.working.Rule.TheVariants.{NewLoad};
 ghost use Rattle.rewrite.specs.Views.{left};
 
 use super::{ask, fits};
-use crate::working::{Denied, Question, Ranges, Rule, Step, Stopped, Working};
+use crate::working::{Denied, MOST, Question, Ranges, Rule, Step, Stopped, Working};
 use ordering::Model;
+use std::ops::Range;
 use trace::{Event, same_word};
 
 impl Working {
@@ -15,77 +16,57 @@ impl Working {
         ensures { word result ≡ take 48 events.now }
     {
         let mut made = Working {
-            events: [Event::BLANK; 48],
+            events: [Event::BLANK; MOST],
             len: 0,
         };
-        if events.len() <= 48 {
-            made.splice(0, 0, events);
-        } else {
-            made.splice(0, 0, &events[0..48]);
-        }
+        made.splice(0..0, &events[..events.len().min(MOST)]);
         made
     }
 
-    // Puts other events in the place of the `gone` events from p on.
-    fn splice(&mut self, p: usize, gone: usize, put: &[Event])
-        requires { (p + gone ≤ self.old.len) × (self.old.len + length put.now ≤ 48 + gone) }
-        ensures { word self.new ≡ take p (word self.old) ++ (put.now ++ drop (p + gone) (word self.old)) }
+    // Puts other events in the place of those that go.
+    fn splice(&mut self, gone: Range<usize>, put: &[Event])
+        requires order { gone.start ≤ gone.end }
+        requires inside { gone.end ≤ self.old.len }
+        requires room { gone.start + length put.now + (self.old.len - gone.end) ≤ MOST }
+        ensures { word self.new ≡ take gone.start (word self.old) ++ (put.now ++ drop gone.end (word self.old)) }
     {
-        let old = self.events;
-        let end = self.len;
-        let q = p + put.len();
-        let n = end - gone + put.len();
-        self.events[p..q].copy_from_slice(put);
-        self.events[q..n].copy_from_slice(&old[p + gone..end]);
-        self.len = n;
+        let end = gone.start + put.len();
+        self.events.copy_within(gone.end..self.len, end);
+        self.events[gone.start..end].copy_from_slice(put);
+        self.len = end + (self.len - gone.end);
     }
-}
 
-// How many events a working word has at most.
-const MOST: usize = 48;
-
-impl Working {
     // Puts in the place of two events what the rule leaves of them.
     fn turn(&mut self, rule: Rule, p: usize, e: Event, f: Event)
         requires { p + 2 ≤ self.old.len }
         ensures { word self.new ≡ take p (word self.old) ++ (left rule e f ++ drop (p + 2) (word self.old)) }
     {
         match rule {
-            Rule::Swap => self.splice(p, 2, &[f, e]),
-            Rule::StoreBeforeStore => self.splice(p, 2, &[f]),
-            _ => self.splice(p, 2, &[e]),
+            Rule::Swap => self.splice(p..p + 2, &[f, e]),
+            Rule::StoreBeforeStore => self.splice(p..p + 2, &[f]),
+            _ => self.splice(p..p + 2, &[e]),
         }
     }
 
     // Rules 1 to 6: on the two events at the step's place and after it.
-    fn pair<M: Model>(
-        &mut self,
-        model: &M,
-        rule: Rule,
-        step: Step,
-        ranges: Ranges,
-    ) -> Result<(), Denied>
+    fn pair<M: Model>(&mut self, model: &M, rule: Rule, step: Step) -> Result<(), Denied>
         requires number { rule_of step.rule ≡ Some rule }
         requires pairs { rule ≢ NewLoad }
-        ensures { Applied (M.meaning model.now) ranges.values ranges.locations step (word self.old) result (word self.new) }
+        ensures { (v l : ℕ) → Applied (M.meaning model.now) v l step (word self.old) result (word self.new) }
     {
         let p = step.place as usize;
         if step.location != 0 || step.value != 0 || p + 1 >= self.len {
             return Err(Denied::Misfit);
         }
-        let e = self.events[p];
-        let f = self.events[p + 1];
-        match fits(rule, e, f) {
-            None => Err(Denied::Misfit),
-            Some(question) => {
-                if ask(model, question) {
-                    self.turn(rule, p, e, f);
-                    Ok(())
-                } else {
-                    Err(Denied::Forbidden)
-                }
-            }
+        let (e, f) = (self.events[p], self.events[p + 1]);
+        let Some(question) = fits(rule, e, f) else {
+            return Err(Denied::Misfit);
+        };
+        if !ask(model, question) {
+            return Err(Denied::Forbidden);
         }
+        self.turn(rule, p, e, f);
+        Ok(())
     }
 
     // Rule 7: a new load.
@@ -100,14 +81,11 @@ impl Working {
         if self.len == MOST {
             return Err(Denied::Overlong);
         }
-        self.splice(
-            p,
-            0,
-            &[Event::Load {
-                location: step.location,
-                value: step.value,
-            }],
-        );
+        let load = Event::Load {
+            location: step.location,
+            value: step.value,
+        };
+        self.splice(p..p, &[load]);
         Ok(())
     }
 
@@ -117,14 +95,13 @@ impl Working {
     {
         match Rule::try_from(step.rule)? {
             Rule::NewLoad => self.put(step, ranges),
-            rule => self.pair(model, rule, step, ranges),
+            rule => self.pair(model, rule, step),
         }
     }
-}
 
-impl Working {
     /// Takes the steps one after another, up to the first that is denied. New loads are within the
     /// ranges.
+    #[tactic(auto, using(crate::proofs::Reach::chain_reaches))]
     pub fn replay<M: Model>(
         &mut self,
         model: &M,
@@ -135,11 +112,9 @@ impl Working {
         ensures sure { StepsAreSure }
         ensures reach { ChainsReach (M.meaning model.now) }
     {
-        for i in 0..steps.len() {
-            match self.apply(model, steps[i], ranges) {
-                Ok(()) => {}
-                Err(why) => return Err(Stopped { step: i, why }),
-            }
+        for (at, &step) in steps.iter().enumerate() {
+            self.apply(model, step, ranges)
+                .map_err(|why| Stopped { step: at, why })?;
         }
         Ok(())
     }
@@ -148,6 +123,6 @@ impl Working {
     pub fn is(&self, other: &[Event]) -> bool
         ensures { MatchBool result (word self.now ≡ other.now) (word self.now ≡ other.now → ⊥) }
     {
-        same_word(&self.events[0..self.len], other)
+        same_word(&self.events[..self.len], other)
     }
 }

@@ -1,25 +1,25 @@
-use Rattle.std.proofs.Common.{sym, refl, subst, arith}
-use Rattle.trace.specs.Words.{Word}
+use Rattle.std.proofs.Common.{refl, arith}
 use Rattle.rewrite.specs.declared.working.Question.TheVariants.{Nothing}
-use Rattle.rewrite.specs.Steps.{word, Fits}
 use Rattle.rewrite.proofs.Fitting.{fit_put, make_put, put_long, word_long, word_short}
 use Rattle.rewrite.proofs.working.Working.put.Goals as goal
 
 pub returns-then-step-ranges : goal.returns-then-step-ranges
-returns-then-step-ranges c m = (refl, λ w q F. let (a, b, d) = fit_put F c.requires in let n = word_long c.args.self.now (omega arith) in elim c.then-step-ranges.branch [ goal.then-step-ranges-via-then-step-ranges y ↦ omega arith | goal.then-step-ranges-via-else-step-ranges+then-step-ranges-2 y ↦ omega arith | goal.then-step-ranges-via-else-step-ranges+else-step-ranges-2+then-p-self y ↦ omega arith ])
+returns-then-step-ranges c m = (
+  refl,
+  λ w q F. let (a, b, d) = fit_put F c.requires in let n = word_long c.args.self.now (omega arith) in elim c.then-step-ranges.branch [
+    | goal.then-step-ranges-via-then-step-ranges y ↦ omega arith
+    | goal.then-step-ranges-via-else-step-ranges+then-step-ranges-2 y ↦ omega arith
+    | goal.then-step-ranges-via-else-step-ranges+else-step-ranges-2+then-p-self y ↦ omega arith
+  ],
+)
 
 pub returns-then-self-eq-MOST : goal.returns-then-self-eq-MOST
 returns-then-self-eq-MOST c m =
     let W = c.args.self.now in
-    let s = c.args.step in
-    let n = word_long W (omega arith) in
-    let F = make_put c.args.ranges.values c.args.ranges.locations s (word W) c.requires (omega arith) (omega arith) (omega arith) in
-    (refl, (_, (Nothing, F, refl), omega (arith, put_long F c.requires)))
+    let F = make_put c.args.ranges.values c.args.ranges.locations c.args.step W (omega arith) c.requires (omega arith) (omega arith) (omega arith) in
+    (refl, (_, (Nothing, F, refl), omega (arith, word_long W (omega arith), put_long F c.requires)))
 
 pub returns : goal.returns
 returns c m =
-    let W = c.args.self.now in
-    let s = c.args.step in
-    let n = word_long W (omega arith) in
-    let F = make_put c.args.ranges.values c.args.ranges.locations s (word W) c.requires (omega arith) (omega arith) (omega arith) in
-    ((Nothing, subst (λ (x : Word). Fits c.args.ranges.values c.args.ranges.locations s (word W) x Nothing) (sym c.splice.ensures) F, refl), word_short c.splice.new.self)
+    let F = make_put c.args.ranges.values c.args.ranges.locations c.args.step c.args.self.now (omega arith) c.requires (omega arith) (omega arith) (omega arith) in
+    ((Nothing, rw c.splice.ensures F, refl), word_short c.splice.new.self)

@@ -1,31 +1,27 @@
-use Rattle.std.proofs.Common.{arith}
+use Rattle.std.proofs.Common.{◌≡◌, rules, of_calls}
+use Rattle.std.proofs.lemmas.Result.{err_from_is_err_and}
 use Rattle.rewrite.specs.Steps.{none, word}
-use Rattle.rewrite.specs.declared.working.Step.{Step}
 use Rattle.rewrite.proofs.Fitting.{fits_one}
-use Rattle.rewrite.proofs.Reach.{stopped, went_on, ended, chain_reaches}
+use Rattle.rewrite.proofs.Reach.{stopped, went_on, told_ok, told_err}
 use Rattle.rewrite.proofs.working.Working.replay.Goals as goal
 
-zero : Step
-zero = record { rule = 0; place = 0; location = 0; value = 0 }
+pub loop-at-init : goal.loop-at-init
+loop-at-init g c = none
 
-pub loop-i-init : goal.loop-i-init
-loop-i-init g c = none
+pub returns-in_err-map_err-clause-replayed : goal.returns-in_err-map_err-clause-replayed
+returns-in_err-map_err-clause-replayed g c =
+    let (e, p, q) = err_from_is_err_and c.from_residual.result c.from_residual.ensures.1 in
+    let (d, k, a) = told_err _ c.apply.result c.map_err.result c.map_err.ensures.cases c.in_err-map_err.was c.apply.ensures in
+    let k : e ≡ record { step = c.loop-at.at-counter; why = d } = search (rules, of_calls) in
+    rw (p, k) (stopped c.args.ranges.values c.args.ranges.locations c.args.steps.now c.loop-at.at-counter (word c.args.self.now) (word c.loop-at.self) _ c.loop-at.invariant (word c.apply.new.self) d c.loop-at-test.true a)
 
-pub returns-in-Err : goal.returns-in-Err
-returns-in-Err g c = record {
-  replayed = stopped c.args.ranges.values c.args.ranges.locations c.args.steps.now c.loop-i.i (word c.args.self.now) (word c.loop-i.self) _ c.loop-i.invariant (word c.apply.new.self) c.in-Err.why (omega arith) c.in-Err.ensures;
-  sure = λ v l s w a b p q F G. fits_one F G;
-  reach = λ v l ss w w' d. chain_reaches d;
-}
+pub loop-at-preserved : goal.loop-at-preserved
+loop-at-preserved g c =
+    let (t, n) = told_ok _ c.apply.result c.map_err.result c.map_err.ensures.cases c.in_ok-map_err.was c.apply.ensures in
+    went_on c.args.ranges.values c.args.ranges.locations c.args.steps.now c.loop-at.at-counter (word c.args.self.now) (word c.loop-at.self) _ c.loop-at.invariant (word c.apply.new.self) c.loop-at-test.true t n
 
-pub loop-i-preserved : goal.loop-i-preserved
-loop-i-preserved g c =
-    let (t, n) = c.in-Ok.ensures in
-    went_on c.args.ranges.values c.args.ranges.locations c.args.steps.now c.loop-i.i (word c.args.self.now) (word c.loop-i.self) _ c.loop-i.invariant (word c.apply.new.self) (omega arith) t n
+pub returns-in_err-map_err-clause-sure : goal.returns-in_err-map_err-clause-sure
+returns-in_err-map_err-clause-sure g c v l s w a b p q F G = fits_one F G
 
-pub returns : goal.returns
-returns g c = record {
-  replayed = ended c.args.ranges.values c.args.ranges.locations c.args.steps.now c.loop-i.i (word c.args.self.now) (word c.loop-i.self) zero c.loop-i.invariant (omega arith);
-  sure = λ v l s w a b p q F G. fits_one F G;
-  reach = λ v l ss w w' d. chain_reaches d;
-}
+pub returns-clause-sure : goal.returns-clause-sure
+returns-clause-sure g c v l s w a b p q F G = fits_one F G
