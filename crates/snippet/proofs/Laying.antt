@@ -7,7 +7,7 @@ use Rattle.snippet.specs.Parse.{operand_at, inner_at, branch_at, declare_at, par
 use Rattle.snippet.specs.Reads.{ReadC}
 use Rattle.trace.specs.declared.refusal.Refusal.{Refusal}
 use Rattle.trace.proofs.Lists.{sets-append}
-use Rattle.snippet.specs.declared.span.Span.{Span}
+use Rattle.std.specs.declared.ops.Range.{Range}
 use lib.Seq.{sets, set_comm}
 use Rattle.snippet.specs.declared.statement.Statement.{Statement}
 use Rattle.snippet.specs.declared.statement.Statement.TheVariants.{If, Declare}
@@ -73,16 +73,16 @@ laid_branch ns ns₁ ns₂ seen middle a n k t e p m q x y =
     rw (both, x, y) (set-sets ns seen (seen + 1) v (flat_b t ++ flat_b e) (omega arith)
     ∙ ap (λ (k : ℕ). sets (set ns seen v) k (flat_b t ++ flat_b e)) (add-one seen))
 
-pub is_branch : (m : Sizes) (blocks : ℕ → ℕ → ℕ → Result Block Refusal) (bs : List ℕ) (depth seen at to a : ℕ) (i j : Span) (t : Block) (middle : ℕ) (e : Block)
-    → operand_at bs (at + 1) to m.registers ≡ Ok a → inner_at bs depth (at + 2) to ≡ Ok i → blocks (seen + 1) i.from i.to ≡ Ok t
-    → middle ≡ seen + 1 + size_b t → inner_at bs depth i.to to ≡ Ok j → blocks middle j.from j.to ≡ Ok e
-    → branch_at m blocks bs depth seen at to ≡ Ok (branch a t e, j.to)
+pub is_branch : (m : Sizes) (blocks : ℕ → ℕ → ℕ → Result Block Refusal) (bs : List ℕ) (depth seen at to a : ℕ) (i j : Range ℕ) (t : Block) (middle : ℕ) (e : Block)
+    → operand_at bs (at + 1) to m.registers ≡ Ok a → inner_at bs depth (at + 2) to ≡ Ok i → blocks (seen + 1) i.start i.end ≡ Ok t
+    → middle ≡ seen + 1 + size_b t → inner_at bs depth i.end to ≡ Ok j → blocks middle j.start j.end ≡ Ok e
+    → branch_at m blocks bs depth seen at to ≡ Ok (branch a t e, j.end)
 is_branch m blocks bs depth seen at to a i j t middle e p q r n u w =
     rw (p, q, r, u, ← n, w) refl
 
-pub is_declare : (m : Sizes) (blocks : ℕ → ℕ → ℕ → Result Block Refusal) (bs : List ℕ) (depth seen at to a x : ℕ) (i : Span) (b : Block)
-    → operand_at bs (at + 1) to m.registers ≡ Ok a → operand_at bs (at + 2) to m.values ≡ Ok x → inner_at bs depth (at + 3) to ≡ Ok i → blocks (seen + 1) i.from i.to ≡ Ok b
-    → declare_at m blocks bs depth seen at to ≡ Ok (declare a x b, i.to)
+pub is_declare : (m : Sizes) (blocks : ℕ → ℕ → ℕ → Result Block Refusal) (bs : List ℕ) (depth seen at to a x : ℕ) (i : Range ℕ) (b : Block)
+    → operand_at bs (at + 1) to m.registers ≡ Ok a → operand_at bs (at + 2) to m.values ≡ Ok x → inner_at bs depth (at + 3) to ≡ Ok i → blocks (seen + 1) i.start i.end ≡ Ok b
+    → declare_at m blocks bs depth seen at to ≡ Ok (declare a x b, i.end)
 is_declare m blocks bs depth seen at to a x i b p q r u = rw (p, q, r, u) refl
 
 module _ (m : Sizes) (blocks : ℕ → ℕ → ℕ → Result Block Refusal) (bs : List ℕ) (depth seen at to : ℕ) (h : seen < 32) where

@@ -8,7 +8,7 @@ use Rattle.snippet.specs.Keeps.{Sizes, keeps_b, keeps_c}
 use Rattle.snippet.specs.Encode.{Bytes, sized, encode_b, encode_c}
 use Rattle.snippet.specs.Parse.{and_then, operand_at, inner_at, one, two, three, four, leaf_at, branch_at, declare_at, parse_c, parse_b}
 use Rattle.trace.specs.declared.refusal.Refusal.{Refusal}
-use Rattle.snippet.specs.declared.span.Span.{Span}
+use Rattle.std.specs.declared.ops.Range.{Range}
 use Rattle.trace.specs.declared.refusal.Cause.TheVariants.{TooMuch}
 
 pub record SoundB (m : Sizes) (bs : List ℕ) (depth seen at to : ℕ) (t : Block) : Type 0 where
@@ -27,14 +27,14 @@ pub record SoundC (m : Sizes) (bs : List ℕ) (depth seen at to : ℕ) (s : Comm
 
 module _ (m : Sizes) (bs : List ℕ) (b : Bytes bs) where
   -- An inner block behind its length.
-  sized_block : (depth seen at to : ℕ) (i : Span) (t : Block) → Spanned bs at to i → SoundB m bs (depth + 1) seen i.from i.to t
-      → Holds 0 bs at (sized (encode_b t)) × (i.to ≡ at + 2 + length (encode_b t))
+  sized_block : (depth seen at to : ℕ) (i : Range ℕ) (t : Block) → Spanned bs at to i → SoundB m bs (depth + 1) seen i.start i.end t
+      → Holds 0 bs at (sized (encode_b t)) × (i.end ≡ at + 2 + length (encode_b t))
   sized_block depth seen at to i t n s =
       let f = n.from in
       let g = n.to' in
       let e = s.ends in
       let l : length (encode_b t) ≡ get_or bs at 0 * 256 + get_or bs (at + 1) 0 = omega arith in
-      (sized_holds bs at (encode_b t) b l (moved 0 bs i.from (at + 2) (encode_b t) f s.holds), omega arith)
+      (sized_holds bs at (encode_b t) b l (moved 0 bs i.start (at + 2) (encode_b t) f s.holds), omega arith)
 
   module _ (blocks : ℕ → ℕ → ℕ → Result Block Refusal) (depth seen at to : ℕ) (few : seen < 32)
       (inner : (k x y : ℕ) (t : Block) → k ≤ 32 → at < x → x ≤ y → y ≤ to → blocks k x y ≡ Ok t → SoundB m bs (depth + 1) k x y t) where
@@ -188,7 +188,7 @@ module _ (m : Sizes) (bs : List ℕ) (b : Bytes bs) where
         let y = operand_ok bs (at + 2) to m.values o.0 o.1.0 in
         let d = inner_ok bs depth (at + 3) to i.0 i.1.0 in
         let n = d.0 in
-        let s = inner (seen + 1) i.0.from i.0.to t.0 (omega arith) (omega (arith, n.from)) (omega (arith, n.from, n.to')) n.within t.1.0 in
+        let s = inner (seen + 1) i.0.start i.0.end t.0 (omega arith) (omega (arith, n.from)) (omega (arith, n.from, n.to')) n.within t.1.0 in
         let k = sized_block depth (seen + 1) (at + 3) to i.0 t.0 n s in
         subst Is (ok_inj _ _ t.1.1)
         record {
@@ -204,17 +204,17 @@ module _ (m : Sizes) (bs : List ℕ) (b : Bytes bs) where
     sound_branch q h e =
         let p = both (operand_at bs (at + 1) to m.registers) _ q e in
         let i = both (inner_at bs depth (at + 2) to) _ q p.1.1 in
-        let t = both (blocks (seen + 1) i.0.from i.0.to) _ q i.1.1 in
-        let j = both (inner_at bs depth i.0.to to) _ q t.1.1 in
-        let u = both (blocks (seen + 1 + size_b t.0) j.0.from j.0.to) _ q j.1.1 in
+        let t = both (blocks (seen + 1) i.0.start i.0.end) _ q i.1.1 in
+        let j = both (inner_at bs depth i.0.end to) _ q t.1.1 in
+        let u = both (blocks (seen + 1 + size_b t.0) j.0.start j.0.end) _ q j.1.1 in
         let x = operand_ok bs (at + 1) to m.registers p.0 p.1.0 in
         let d = inner_ok bs depth (at + 2) to i.0 i.1.0 in
         let n = d.0 in
-        let s = inner (seen + 1) i.0.from i.0.to t.0 (omega arith) (omega (arith, n.from)) (omega (arith, n.from, n.to')) n.within t.1.0 in
+        let s = inner (seen + 1) i.0.start i.0.end t.0 (omega arith) (omega (arith, n.from)) (omega (arith, n.from, n.to')) n.within t.1.0 in
         let k = sized_block depth (seen + 1) (at + 2) to i.0 t.0 n s in
-        let n' = (inner_ok bs depth i.0.to to j.0 j.1.0).0 in
-        let s' = inner (seen + 1 + size_b t.0) j.0.from j.0.to u.0 s.few (omega (arith, n'.from, k.1)) (omega (arith, n'.from, n'.to')) n'.within u.1.0 in
-        let k' = sized_block depth (seen + 1 + size_b t.0) i.0.to to j.0 u.0 n' s' in
+        let n' = (inner_ok bs depth i.0.end to j.0 j.1.0).0 in
+        let s' = inner (seen + 1 + size_b t.0) j.0.start j.0.end u.0 s.few (omega (arith, n'.from, k.1)) (omega (arith, n'.from, n'.to')) n'.within u.1.0 in
+        let k' = sized_block depth (seen + 1 + size_b t.0) i.0.end to j.0 u.0 n' s' in
         let one = sized (encode_b t.0) in
         let two = sized (encode_b u.0) in
         let l = length-append (encode_b t.0) two in
@@ -225,7 +225,7 @@ module _ (m : Sizes) (bs : List ℕ) (b : Bytes bs) where
             (
               x.0,
               moved 0 bs (at + 2) (at + 1 + 1) (one ++ two) (omega arith)
-                  (join 0 bs (at + 2) one two k.0 (moved 0 bs i.0.to (at + 2 + length one) two (omega (arith, k.1)) k'.0)),
+                  (join 0 bs (at + 2) one two k.0 (moved 0 bs i.0.end (at + 2 + length one) two (omega (arith, k.1)) k'.0)),
             ),
           );
           ends = omega (arith, k.1, k'.1);

@@ -7,7 +7,7 @@ use Rattle.snippet.specs.Layout.{flat_b, flat_c, command_of}
 use Rattle.snippet.specs.Meant.{block_of}
 use Rattle.snippet.specs.declared.body.Body.{Body}
 use Rattle.snippet.specs.declared.limits.Limits.{Limits}
-use Rattle.snippet.specs.declared.span.Span.{Span}
+use Rattle.std.specs.declared.ops.Range.{Range}
 use Rattle.snippet.specs.declared.statement.Statement.{Statement}
 
 -- The same answer: a value through `f`, a refusal as it is.
@@ -59,12 +59,12 @@ abbrev pub Before : Result ℕ Refusal → ℕ → ℕ → Type 0
 Before (Ok x) at to = at < to
 Before (Err e) at to = Unit {0}
 
-abbrev pub Ahead : Result Span Refusal → ℕ → ℕ → Type 0
-Ahead (Ok i) at to = (at + 2 ≤ i.from) × (i.from ≤ i.to) × (i.to ≤ to)
+abbrev pub Ahead : Result (Range ℕ) Refusal → ℕ → ℕ → Type 0
+Ahead (Ok i) at to = (at + 2 ≤ i.start) × (i.start ≤ i.end) × (i.end ≤ to)
 Ahead (Err e) at to = Unit {0}
 
-abbrev pub Inside : Result Span Refusal → ℕ → ℕ → ℕ → Type 0
-Inside (Ok i) depth at to = (at + 2 ≤ i.from) × (i.from ≤ i.to) × (i.to ≤ to) × (depth < 8)
+abbrev pub Inside : Result (Range ℕ) Refusal → ℕ → ℕ → ℕ → Type 0
+Inside (Ok i) depth at to = (at + 2 ≤ i.start) × (i.start ≤ i.end) × (i.end ≤ to) × (depth < 8)
 Inside (Err e) depth at to = Unit {0}
 
 abbrev pub Few : Result ℕ Refusal → ℕ → Type 0

@@ -7,12 +7,12 @@ ghost use Rattle.snippet.specs.Reads.{Gives, Ahead, Inside, Few, Within, ReadB, 
 use super::{operand, read_leaf};
 use crate::body::Body;
 use crate::limits::Limits;
-use crate::span::Span;
 use crate::statement::Statement;
+use std::ops::Range;
 use trace::{Cause, Refusal};
 
 /// Where the block whose length stands at a place begins and ends.
-fn block_span(bytes: &[u8], at: usize, end: usize) -> Result<Span, Refusal>
+fn block_span(bytes: &[u8], at: usize, end: usize) -> Result<Range<usize>, Refusal>
     requires { end ≤ length bytes.now }
     ensures value { result ≡ span_at bytes.now at end }
     ensures bound { Ahead result at end }
@@ -24,21 +24,18 @@ fn block_span(bytes: &[u8], at: usize, end: usize) -> Result<Span, Refusal>
         });
     }
     let from = at + 2;
-    let size = bytes[at] as usize * 256 + bytes[at + 1] as usize;
+    let size = usize::from(u16::from_be_bytes([bytes[at], bytes[at + 1]]));
     if end - from < size {
         return Err(Refusal {
             cause: Cause::Missing,
             place: at,
         });
     }
-    Ok(Span {
-        from,
-        to: from + size,
-    })
+    Ok(from..from + size)
 }
 
 /// The same of a block inside one of the given depth.
-fn inner_span(bytes: &[u8], depth: usize, at: usize, end: usize) -> Result<Span, Refusal>
+fn inner_span(bytes: &[u8], depth: usize, at: usize, end: usize) -> Result<Range<usize>, Refusal>
     requires { end ≤ length bytes.now }
     ensures value { result ≡ inner_at bytes.now depth at end }
     ensures bound { Inside result depth at end }
@@ -160,18 +157,18 @@ fn read_branch(
         out,
         depth + 1,
         seen + 1,
-        first.from,
-        first.to,
+        first.start,
+        first.end,
     )?;
-    let second = inner_span(bytes, depth, first.to, end)?;
+    let second = inner_span(bytes, depth, first.end, end)?;
     let all = read_block(
         bytes,
         limits,
         out,
         depth + 1,
         middle,
-        second.from,
-        second.to,
+        second.start,
+        second.end,
     )?;
     let nonzero = (middle - seen - 1) as u8;
     let zero = (all - middle) as u8;
@@ -180,7 +177,7 @@ fn read_branch(
         nonzero,
         zero,
     };
-    Ok((second.to, all))
+    Ok((second.end, all))
 }
 
 /// A declared register, written once the statements of its block are counted.
@@ -205,25 +202,25 @@ fn read_declare(
     let register = operand(bytes, at + 1, end, limits.registers)?;
     let value = operand(bytes, at + 2, end, limits.values)?;
     let span = inner_span(bytes, depth, at + 3, end)?;
-    let all = read_block(bytes, limits, out, depth + 1, seen + 1, span.from, span.to)?;
+    let all = read_block(bytes, limits, out, depth + 1, seen + 1, span.start, span.end)?;
     let inner = (all - seen - 1) as u8;
     out[seen] = Statement::Declare {
         register,
         value,
         inner,
     };
-    Ok((span.to, all))
+    Ok((span.end, all))
 }
 
 /// The body that the bytes of a span are.
-fn read_span(bytes: &[u8], limits: Limits, span: Span) -> Result<Body, Refusal>
-    requires place { span.from ≤ span.to }
-    requires within { span.to ≤ length bytes.now }
-    ensures gives { Gives result (parse_b (sizes limits) (suc (span.to - span.from)) bytes.now 0 0 span.from span.to) block_of }
+fn read_span(bytes: &[u8], limits: Limits, span: Range<usize>) -> Result<Body, Refusal>
+    requires place { span.start ≤ span.end }
+    requires within { span.end ≤ length bytes.now }
+    ensures gives { Gives result (parse_b (sizes limits) (suc (span.end - span.start)) bytes.now 0 0 span.start span.end) block_of }
     ensures limits { Bounded result limits }
 {
     let mut statements = [Statement::Skip; 32];
-    let len = read_block(bytes, limits, &mut statements, 0, 0, span.from, span.to)?;
+    let len = read_block(bytes, limits, &mut statements, 0, 0, span.start, span.end)?;
     Ok(Body {
         limits,
         statements,
@@ -238,6 +235,7 @@ pub fn read_body(bytes: &[u8], limits: Limits, at: usize) -> Result<(Body, usize
     ensures after { After result (length bytes.now) }
 {
     let span = block_span(bytes, at, bytes.len())?;
+    let end = span.end;
     let body = read_span(bytes, limits, span)?;
-    Ok((body, span.to))
+    Ok((body, end))
 }

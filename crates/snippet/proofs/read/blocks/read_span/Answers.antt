@@ -9,12 +9,12 @@ use Rattle.snippet.proofs.read.blocks.read_span.Goals as goal
 pub returns-in_err-len : goal.returns-in_err-len
 returns-in_err-len c =
     let p = err_from_is_err_and c.from_residual.result c.from_residual.ensures.1 in
-    let e = c.in_err-len.ensures.reads (suc (c.args.span.to - c.args.span.from)) (omega arith) in
+    let e = c.in_err-len.ensures.reads (suc (c.args.span.end - c.args.span.start)) (omega arith) in
     rw (p.1, p.2) record { gives = e; limits = tt }
 
 pub returns : goal.returns
 returns c =
-    let b = c.in_ok-len.ensures.reads (suc (c.args.span.to - c.args.span.from)) (omega arith) in
+    let b = c.in_ok-len.ensures.reads (suc (c.args.span.end - c.args.span.start)) (omega arith) in
     record {
       gives = read_laid _ _ b.body _ b.is b.laid b.count (omega (arith, c.in_ok-len.ensures.few));
       limits = refl;
@@ -23,8 +23,8 @@ returns c =
 pub invariant_of-result : goal.invariant_of-result
 invariant_of-result c =
     let m = sizes c.args.limits in
-    let at = c.args.span.from in
-    let to = c.args.span.to in
+    let at = c.args.span.start in
+    let to = c.args.span.end in
     let b = c.in_ok-len.ensures.reads (suc (to - at)) (omega arith) in
     let few = c.in_ok-len.ensures.few in
     let s = sound_b m c.args.bytes.now (λ k. (c.type_inv.bytes k).fits) (suc (to - at)) 0 0 at to b.body (omega arith) c.requires.place (omega arith) b.is in
