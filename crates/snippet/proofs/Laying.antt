@@ -4,7 +4,6 @@ use Rattle.snippet.specs.Program.{Block, Command, end, then, skip, load, store, 
 use Rattle.snippet.specs.Layout.{flat_b, flat_c}
 use Rattle.snippet.specs.Keeps.{Sizes}
 use Rattle.snippet.specs.Parse.{operand_at, inner_at, branch_at, declare_at, parse_c}
-use Rattle.snippet.specs.Reads.{ReadC}
 use Rattle.trace.specs.declared.refusal.Refusal.{Refusal}
 use Rattle.trace.proofs.Lists.{sets-append}
 use Rattle.std.specs.declared.ops.Range.{Range}
@@ -91,7 +90,3 @@ module _ (m : Sizes) (blocks : ℕ → ℕ → ℕ → Result Block Refusal) (bs
 
   pub declare_at_lem : get_or bs at 0 ≡ 12 → parse_c m blocks bs depth seen at to ≡ declare_at m blocks bs depth seen at to
   declare_at_lem e = rw (lt-ltb seen 32 h, e) refl
-
--- The same reading under another name.
-pub via_c : (r : Result (ℕ × ℕ) Refusal) {p q : Result (Command × ℕ) Refusal} (ns ns' : List Statement) (seen : ℕ) → p ≡ q → ReadC r q ns ns' seen → ReadC r p ns ns' seen
-via_c r ns ns' seen e h = rw e h
