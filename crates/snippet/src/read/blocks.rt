@@ -1,7 +1,7 @@
-ghost use Rattle.std.specs.Prelude.{◌≡◌, ◌+◌, ◌<◌, ◌≤◌, length, IfOk, OnOk};
+ghost use Rattle.std.specs.Prelude.{◌≡◌, ◌<◌, length, OnOk};
 ghost use Rattle.snippet.specs.Keeps.{sizes};
-ghost use Rattle.snippet.specs.Parse.{inner_at, branch_at, declare_at, leaf_at, parse_c, body_at};
-ghost use Rattle.snippet.specs.Reads.{Gives, ReadC, ReadsBlock, ReadsNested, ReadsCommand, placed, Under, After};
+ghost use Rattle.snippet.specs.Parse.{branch_at, declare_at, parse_c, body_at};
+ghost use Rattle.snippet.specs.Reads.{Gives, ReadsBlock, ReadsNested, ReadsCommand, placed, Under, After};
 
 use super::{Laid, Reader, Source, refused};
 use crate::body::Body;
@@ -35,20 +35,11 @@ impl<'a> Reader<'a> {
         match self.source.bytes[self.at] {
             11 => self.branch(out),
             12 => self.declared(out),
-            _ => self.plain(out),
+            _ => {
+                out.push(self.leaf()?);
+                Ok(())
+            }
         }
-    }
-
-    /// Takes a statement without blocks.
-    fn plain(&mut self, out: &mut Laid) -> Result<(), Refusal>
-        requires place { self.old.at < self.old.source.end }
-        requires room { out.old.len < 32 }
-        ensures reads { ReadC result (leaf_at (sizes self.old.source.limits) self.old.source.bytes.now self.old.at self.old.source.end) out.old out.new self.new.at }
-        ensures ahead { OnOk result (self.old.at < self.new.at) }
-        ensures source { self.new.source ≡ self.old.source }
-    {
-        out.push(self.leaf()?);
-        Ok(())
     }
 
     /// Takes an if, which is written once the statements of its blocks are counted.
@@ -104,22 +95,6 @@ impl<'a> Reader<'a> {
         ensures ahead { OnOk result (self.old.at < self.new.at) }
         ensures source { self.new.source ≡ self.old.source }
     {
-        let inner = self.inner()?;
-        let before = out.len;
-        inner.block(out)?;
-        self.at = inner.source.end;
-        Ok((out.len - before) as u8)
-    }
-
-    /// What takes the inner block whose length stands here.
-    fn inner(&self) -> Result<Reader<'a>, Refusal>
-        ensures span { Gives result (inner_at self.now.source.bytes.now self.now.source.depth self.now.at self.now.source.end) (λ r. record { start = r.at; end = r.source.end }) }
-        ensures start { IfOk result (λ r. r.at ≡ self.now.at + 2) }
-        ensures bound { IfOk result (λ r. r.source.end ≤ self.now.source.end) }
-        ensures depth { IfOk result (λ r. r.source.depth ≡ self.now.source.depth + 1) }
-        ensures bytes { IfOk result (λ r. r.source.bytes ≡ self.now.source.bytes) }
-        ensures limits { IfOk result (λ r. r.source.limits ≡ self.now.source.limits) }
-    {
         let span = self.source.span(self.at)?;
         if self.source.depth >= 8 {
             return refused(Cause::TooMuch, self.at);
@@ -127,10 +102,14 @@ impl<'a> Reader<'a> {
         let mut source = self.source;
         source.depth += 1;
         source.end = span.end;
-        Ok(Reader {
+        let inner = Reader {
             source,
             at: span.start,
-        })
+        };
+        let before = out.len;
+        inner.block(out)?;
+        self.at = span.end;
+        Ok((out.len - before) as u8)
     }
 }
 
