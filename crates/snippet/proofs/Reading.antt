@@ -1,12 +1,12 @@
 -- From what the reader's parts read to what the reader reads.
-use Rattle.std.proofs.Common.{◌≡◌, ℕ, ◌+◌, ◌<◌, List, set, get_or, Ok, Err, Result, sym, refl, ap, ◌∙◌, arith, eq-eqb, ne_eqb, lt-ltb}
+use Rattle.std.proofs.Common.{◌≡◌, ℕ, ◌+◌, ◌<◌, List, set, Ok, Err, Result, sym, refl, ap, ◌∙◌, arith, eq-eqb, ne_eqb}
 use Rattle.std.specs.declared.ops.Range.{Range}
 use Rattle.trace.specs.declared.refusal.Refusal.{Refusal}
 use Rattle.snippet.proofs.Laying.{by_suc, laid_then, laid_branch, laid_declare}
-use Rattle.snippet.specs.Keeps.{Sizes}
+use Rattle.snippet.specs.Keeps.{Sizes, sizes}
 use Rattle.snippet.specs.Parse.{and_then, operand_at, inner_at, branch_at, declare_at, parse_c}
-use Rattle.snippet.specs.Program.{Block, end, then, branch, declare, size_b}
-use Rattle.snippet.specs.Reads.{NestedRead, CommandRead, ReadsBlock, ReadsCommand, nested_at}
+use Rattle.snippet.specs.Program.{Block, Command, end, then, branch, declare, size_b}
+use Rattle.snippet.specs.Reads.{NestedRead, CommandRead, ReadsBlock, ReadsCommand, blocks_of, nested_at}
 use Rattle.snippet.specs.declared.read.Laid.{Laid}
 use Rattle.snippet.specs.declared.read.Reader.{Reader}
 use Rattle.snippet.specs.declared.read.Source.{Source}
@@ -28,72 +28,70 @@ same (Ok a) f g h = h a
 same (Err e) f g h = refl
 
 -- A command that holds blocks, by its inner blocks.
-module _ (m : Sizes) (blocks : ℕ → ℕ → ℕ → Result Block Refusal) (bs : List ℕ) (depth seen at to : ℕ) where
+module _ (s : Reader) (o : Laid) (f : ℕ) where
+  abbrev operand : ℕ → ℕ → Result ℕ Refusal
+  operand at limit = operand_at s.source.bytes.now at s.source.end limit
+
+  abbrev inner : ℕ → Result (Range ℕ) Refusal
+  inner at = inner_at s.source.bytes.now s.source.depth at s.source.end
+
+  abbrev block : ℕ → Range ℕ → Result Block Refusal
+  block seen i = blocks_of s.source f seen i.start i.end
+
   abbrev nested : ℕ → ℕ → Result (Block × ℕ) Refusal
-  nested seen at = nested_at blocks bs depth seen at to
+  nested seen at = nested_at (blocks_of s.source f) s.source.bytes.now s.source.depth seen at s.source.end
 
-  branch_nested : branch_at m blocks bs depth seen at to
-      ≡ and_then (operand_at bs (at + 1) to m.registers) (λ a. and_then (nested (seen + 1) (at + 2)) (λ t.
-      and_then (nested (seen + 1 + size_b t.0) t.1) (λ e. Ok (branch a t.0 e.0, e.1))))
-  branch_nested = same (operand_at bs (at + 1) to m.registers) _ _ (λ a.
-      let second = λ (t : Block × ℕ). and_then (nested (seen + 1 + size_b t.0) t.1) (λ e. Ok (branch a t.0 e.0, e.1)) in
-      sym (on_range (inner_at bs depth (at + 2) to) (λ i. blocks (seen + 1) i.start i.end) second
-      ∙ same (inner_at bs depth (at + 2) to) _ _ (λ i. same (blocks (seen + 1) i.start i.end) _ _ (λ t.
-      on_range (inner_at bs depth i.end to) (λ j. blocks (seen + 1 + size_b t) j.start j.end) (λ e. Ok (branch a t e.0, e.1))))))
+  abbrev command : (Sizes → (ℕ → ℕ → ℕ → Result Block Refusal) → List ℕ → ℕ → ℕ → ℕ → ℕ → Result (Command × ℕ) Refusal) → Result (Command × ℕ) Refusal
+  command parse = parse (sizes s.source.limits) (blocks_of s.source f) s.source.bytes.now s.source.depth o.len s.at s.source.end
 
-  declare_nested : declare_at m blocks bs depth seen at to
-      ≡ and_then (operand_at bs (at + 1) to m.registers) (λ a. and_then (operand_at bs (at + 2) to m.values) (λ x.
-      and_then (nested (seen + 1) (at + 3)) (λ t. Ok (declare a x t.0, t.1))))
-  declare_nested = same (operand_at bs (at + 1) to m.registers) _ _ (λ a. same (operand_at bs (at + 2) to m.values) _ _ (λ x.
-      sym (on_range (inner_at bs depth (at + 3) to) (λ i. blocks (seen + 1) i.start i.end) (λ t. Ok (declare a x t.0, t.1)))))
+  branch_nested : command branch_at
+      ≡ and_then (operand (s.at + 1) s.source.limits.registers) (λ a. and_then (nested (o.len + 1) (s.at + 2)) (λ t.
+      and_then (nested (o.len + 1 + size_b t.0) t.1) (λ e. Ok (branch a t.0 e.0, e.1))))
+  branch_nested = same (operand (s.at + 1) s.source.limits.registers) _ _ (λ a.
+      let second = λ (t : Block × ℕ). and_then (nested (o.len + 1 + size_b t.0) t.1) (λ e. Ok (branch a t.0 e.0, e.1)) in
+      sym (on_range (inner (s.at + 2)) (block (o.len + 1)) second
+      ∙ same (inner (s.at + 2)) _ _ (λ i. same (block (o.len + 1) i) _ _ (λ t.
+      on_range (inner i.end) (block (o.len + 1 + size_b t)) (λ e. Ok (branch a t e.0, e.1))))))
 
-  pub branch_first : (a : ℕ) (e : Refusal) (at₁ seen₁ : ℕ) → operand_at bs (at + 1) to m.registers ≡ Ok a → at₁ ≡ at + 2 → seen₁ ≡ seen + 1
-      → nested seen₁ at₁ ≡ Err e → branch_at m blocks bs depth seen at to ≡ Err e
-  branch_first a e at₁ seen₁ p q r h = branch_nested ∙ rw (p, ← q, ← r, h) refl
+  declare_nested : command declare_at
+      ≡ and_then (operand (s.at + 1) s.source.limits.registers) (λ a. and_then (operand (s.at + 2) s.source.limits.values) (λ x.
+      and_then (nested (o.len + 1) (s.at + 3)) (λ t. Ok (declare a x t.0, t.1))))
+  declare_nested = same (operand (s.at + 1) s.source.limits.registers) _ _ (λ a. same (operand (s.at + 2) s.source.limits.values) _ _ (λ x.
+      sym (on_range (inner (s.at + 3)) (block (o.len + 1)) (λ t. Ok (declare a x t.0, t.1)))))
 
-  pub branch_second : (a : ℕ) (e : Refusal) (ns ns₁ : List Statement) (at₁ seen₁ at₂ seen₂ n : ℕ)
-      → operand_at bs (at + 1) to m.registers ≡ Ok a → at₁ ≡ at + 2 → seen₁ ≡ seen + 1
-      → NestedRead (nested seen₁ at₁) ns ns₁ seen₁ at₂ seen₂ n
-      → nested seen₂ at₂ ≡ Err e → branch_at m blocks bs depth seen at to ≡ Err e
-  branch_second a e ns ns₁ at₁ seen₁ at₂ seen₂ n p q r h k = branch_nested ∙ rw (p, ← q, ← r, h.is, ← h.more, k) refl
+  module _ (a : ℕ) {at₁ seen₁ : ℕ} (register : operand (s.at + 1) s.source.limits.registers ≡ Ok a) (len : seen₁ ≡ o.len + 1) where
+    pub branch_first : {e : Refusal} → at₁ ≡ s.at + 2 → nested seen₁ at₁ ≡ Err e → command branch_at ≡ Err e
+    branch_first q h = branch_nested ∙ rw (register, ← q, ← len, h) refl
 
-  pub branch_done : (a : ℕ) (ns ns₁ ns₂ : List Statement) (at₁ seen₁ at₂ seen₂ at₃ seen₃ n k : ℕ)
-      → operand_at bs (at + 1) to m.registers ≡ Ok a → at₁ ≡ at + 2 → seen₁ ≡ seen + 1
-      → NestedRead (nested seen₁ at₁) ns ns₁ seen₁ at₂ seen₂ n
-      → NestedRead (nested seen₂ at₂) ns₁ ns₂ seen₂ at₃ seen₃ k
-      → CommandRead (branch_at m blocks bs depth seen at to) ns (set ns₂ seen (If a n k)) seen at₃ seen₃
-  branch_done a ns ns₁ ns₂ at₁ seen₁ at₂ seen₂ at₃ seen₃ n k p q r h j =
-      record {
-        command = branch a h.body j.body;
-        is = branch_nested ∙ rw (p, ← q, ← r, h.is, ← h.more, j.is) refl;
-        laid = laid_branch _ _ _ _ _ _ _ _ h.body j.body (rw (← r) h.laid) (rw (← r) h.more) j.laid h.size j.size;
-        count = omega (arith, h.more, j.more);
-      }
+    pub branch_second : {e : Refusal} {ns ns₁ : List Statement} {at₂ seen₂ n : ℕ}
+        → at₁ ≡ s.at + 2 → NestedRead (nested seen₁ at₁) ns ns₁ seen₁ at₂ seen₂ n → nested seen₂ at₂ ≡ Err e → command branch_at ≡ Err e
+    branch_second q h k = branch_nested ∙ rw (register, ← q, ← len, h.is, ← h.more, k) refl
 
-  pub declare_inner : (a x : ℕ) (e : Refusal) (at₁ seen₁ : ℕ) → operand_at bs (at + 1) to m.registers ≡ Ok a → operand_at bs (at + 2) to m.values ≡ Ok x
-      → at₁ ≡ at + 3 → seen₁ ≡ seen + 1
-      → nested seen₁ at₁ ≡ Err e → declare_at m blocks bs depth seen at to ≡ Err e
-  declare_inner a x e at₁ seen₁ p u q r h = declare_nested ∙ rw (p, u, ← q, ← r, h) refl
+    pub branch_done : {ns ns₁ ns₂ : List Statement} {at₂ seen₂ at₃ seen₃ n k : ℕ}
+        → at₁ ≡ s.at + 2 → NestedRead (nested seen₁ at₁) ns ns₁ seen₁ at₂ seen₂ n → NestedRead (nested seen₂ at₂) ns₁ ns₂ seen₂ at₃ seen₃ k
+        → CommandRead (command branch_at) ns (set ns₂ o.len (If a n k)) o.len at₃ seen₃
+    branch_done q h j =
+        record {
+          command = branch a h.body j.body;
+          is = branch_nested ∙ rw (register, ← q, ← len, h.is, ← h.more, j.is) refl;
+          laid = laid_branch _ _ _ _ _ _ _ _ h.body j.body (rw (← len) h.laid) (rw (← len) h.more) j.laid h.size j.size;
+          count = omega (arith, h.more, j.more);
+        }
 
-  pub declare_done : (a x : ℕ) (ns ns₁ : List Statement) (at₁ seen₁ at₂ seen₂ n : ℕ)
-      → operand_at bs (at + 1) to m.registers ≡ Ok a → operand_at bs (at + 2) to m.values ≡ Ok x → at₁ ≡ at + 3 → seen₁ ≡ seen + 1
-      → NestedRead (nested seen₁ at₁) ns ns₁ seen₁ at₂ seen₂ n
-      → CommandRead (declare_at m blocks bs depth seen at to) ns (set ns₁ seen (Declare a x n)) seen at₂ seen₂
-  declare_done a x ns ns₁ at₁ seen₁ at₂ seen₂ n p u q r h =
-      record {
-        command = declare a x h.body;
-        is = declare_nested ∙ rw (p, u, ← q, ← r, h.is) refl;
-        laid = laid_declare _ _ _ _ _ _ h.body (rw (← r) h.laid) h.size;
-        count = omega (arith, h.more);
-      }
+    pub declare_inner : {e : Refusal} (x : ℕ) → operand (s.at + 2) s.source.limits.values ≡ Ok x
+        → at₁ ≡ s.at + 3 → nested seen₁ at₁ ≡ Err e → command declare_at ≡ Err e
+    declare_inner x u q h = declare_nested ∙ rw (register, u, ← q, ← len, h) refl
 
--- A command is told by its number.
-module _ (s s' : Reader) (o o' : Laid) (r : Result (Unit {0}) Refusal) (room : o.len < 32) where
-  pub is_branch_at : get_or s.source.bytes.now s.at 0 ≡ 11 → ReadsCommand branch_at s o r s' o' → ReadsCommand parse_c s o r s' o'
-  is_branch_at e k f h = rw (lt-ltb o.len 32 room, e) (k f h)
-
-  pub is_declare_at : get_or s.source.bytes.now s.at 0 ≡ 12 → ReadsCommand declare_at s o r s' o' → ReadsCommand parse_c s o r s' o'
-  is_declare_at e k f h = rw (lt-ltb o.len 32 room, e) (k f h)
+    pub declare_done : {ns ns₁ : List Statement} {at₂ seen₂ n : ℕ} (x : ℕ) → operand (s.at + 2) s.source.limits.values ≡ Ok x
+        → at₁ ≡ s.at + 3 → NestedRead (nested seen₁ at₁) ns ns₁ seen₁ at₂ seen₂ n
+        → CommandRead (command declare_at) ns (set ns₁ o.len (Declare a x n)) o.len at₂ seen₂
+    declare_done x u q h =
+        record {
+          command = declare a x h.body;
+          is = declare_nested ∙ rw (register, u, ← q, ← len, h.is) refl;
+          laid = laid_declare _ _ _ _ _ _ h.body (rw (← len) h.laid) h.size;
+          count = omega (arith, h.more);
+        }
 
 -- A block, a command at a time.
 pub block_done : (s : Reader) (o : Laid) → s.at ≡ s.source.end → ReadsBlock s o (Ok tt) o
