@@ -17,15 +17,15 @@ ok_inj x y q = cc
 
 pub both : {A B : Type 0} (p : Result A Refusal) (k : A → Result B Refusal) (z : B) → and_then p k ≡ Ok z → (a : A) × ((p ≡ Ok a) × (k a ≡ Ok z))
 both (Ok a) k z e = (a, (refl, e))
-both (Err f) k z e = elim (no_ok f z e) [ ]
+both (Err f) k z e = absurd (no_ok f z e)
 
 pub pass : {A : Type 0} (c : Bool) (n : Cause) (p : ℕ) (y : Result A Refusal) (z : A) → cond c (declined n p) y ≡ Ok z → (c ≡ false) × (y ≡ Ok z)
-pass true n p y z e = elim (no_ok _ z e) [ ]
+pass true n p y z e = absurd (no_ok _ z e)
 pass false n p y z e = (refl, e)
 
 pub keep : {A : Type 0} (c : Bool) (n : Cause) (p : ℕ) (x : Result A Refusal) (z : A) → cond c x (declined n p) ≡ Ok z → (c ≡ true) × (x ≡ Ok z)
 keep true n p x z e = (refl, e)
-keep false n p x z e = elim (no_ok _ z e) [ ]
+keep false n p x z e = absurd (no_ok _ z e)
 
 pub pick : {A : Type 0} (n k : ℕ) (x y : Result A Refusal) (z : A) → cond (eqb n k) x y ≡ Ok z → ((n ≡ k) × (x ≡ Ok z)) ⊎ (y ≡ Ok z)
 pick {A} n k x y z e = by (eqb n k) refl e

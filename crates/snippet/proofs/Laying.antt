@@ -13,10 +13,7 @@ use Rattle.snippet.specs.declared.statement.Statement.TheVariants.{If, Declare}
 
 -- A bound that is passed is a successor.
 pub by_suc : (P : ℕ → Type 0) (n : ℕ) → ((g : ℕ) → n ≤ g → P (suc g)) → (f : ℕ) → n < f → P f
-by_suc P n k zero h = elim (never h) [ ]
-  where
-    never : n < 0 → ⊥
-    never h = omega arith
+by_suc P n k zero h = absurd (omega arith)
 by_suc P n k (suc g) h = k g (omega arith)
 
 mutual

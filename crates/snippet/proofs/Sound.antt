@@ -130,53 +130,27 @@ module _ (m : Sizes) (bs : List ℕ) (b : Bytes bs) where
           proper = proper o0.0 o1.0 o2.0 o3.0 x0.2 x1.2 x2.2 x3.2;
         }
 
+    -- The number of a command is one, or the rest holds.
+    told : (n : ℕ) {x y : Result (Command × ℕ) Refusal} {z : Command × ℕ} → (get_or bs at 0 ≡ n → x ≡ Ok z → Is z) → (y ≡ Ok z → Is z) → cond (eqb (get_or bs at 0) n) x y ≡ Ok z → Is z
+    told n {x} {y} {z} here further e = elim (pick (get_or bs at 0) n x y z e) [
+      | inl w ↦ here w.0 w.1
+      | inr r ↦ further r
+    ]
+
     sound_leaf : (z : Command × ℕ) → at < to → leaf_at m bs at to ≡ Ok z → Is z
-    sound_leaf z l e =
-        elim (pick (get_or bs at 0) 0 _ _ z e) [
-          | inl w ↦ sound_zero 0 skip refl refl refl z l w.0 w.1
-          | inr e0 ↦
-              elim (pick (get_or bs at 0) 1 _ _ z e0) [
-                | inl w ↦ sound_two 1 m.registers m.locations load (λ a b. refl) (λ a b. refl) (λ a b x y. and_from _ _ x y) z w.0 w.1
-                | inr e1 ↦
-                    elim (pick (get_or bs at 0) 2 _ _ z e1) [
-                      | inl w ↦ sound_two 2 m.locations m.registers store (λ a b. refl) (λ a b. refl) (λ a b x y. and_from _ _ x y) z w.0 w.1
-                      | inr e2 ↦
-                          elim (pick (get_or bs at 0) 3 _ _ z e2) [
-                            | inl w ↦ sound_two 3 m.registers m.values constant (λ a b. refl) (λ a b. refl) (λ a b x y. and_from _ _ x y) z w.0 w.1
-                            | inr e3 ↦
-                                elim (pick (get_or bs at 0) 4 _ _ z e3) [
-                                  | inl w ↦ sound_two 4 m.registers m.registers copy (λ a b. refl) (λ a b. refl) (λ a b x y. and_from _ _ x y) z w.0 w.1
-                                  | inr e4 ↦
-                                      elim (pick (get_or bs at 0) 5 _ _ z e4) [
-                                        | inl w ↦ sound_three 5 m.registers m.registers m.registers sum (λ a b c. refl) (λ a b c. refl) (λ a b c x y u. and_from _ _ x (and_from _ _ y u)) z w.0 w.1
-                                        | inr e5 ↦
-                                            elim (pick (get_or bs at 0) 6 _ _ z e5) [
-                                              | inl w ↦ sound_three 6 m.registers m.registers m.registers equal (λ a b c. refl) (λ a b c. refl) (λ a b c x y u. and_from _ _ x (and_from _ _ y u)) z w.0 w.1
-                                              | inr e6 ↦
-                                                  elim (pick (get_or bs at 0) 7 _ _ z e6) [
-                                                    | inl w ↦ sound_four 7 m.registers m.locations m.registers m.registers compare_and_swap (λ a b c d. refl) (λ a b c d. refl) (λ a b c d x y u v. and_from _ _ x (and_from _ _ y (and_from _ _ u v))) z w.0 w.1
-                                                    | inr e7 ↦
-                                                        elim (pick (get_or bs at 0) 8 _ _ z e7) [
-                                                          | inl w ↦ sound_zero 8 fence refl refl refl z l w.0 w.1
-                                                          | inr e8 ↦
-                                                              elim (pick (get_or bs at 0) 9 _ _ z e8) [
-                                                                | inl w ↦ sound_one 9 m.registers get (λ a. refl) (λ a. refl) (λ a x. x) z w.0 w.1
-                                                                | inr e9 ↦
-                                                                    elim (pick (get_or bs at 0) 10 _ _ z e9) [
-                                                                      | inl w ↦ sound_one 10 m.registers print (λ a. refl) (λ a. refl) (λ a x. x) z w.0 w.1
-                                                                      | inr e10 ↦
-                                                                          elim (no_ok _ z e10) [ ]
-                                                                    ]
-                                                              ]
-                                                        ]
-                                                  ]
-                                            ]
-                                      ]
-                                ]
-                          ]
-                    ]
-              ]
-        ]
+    sound_leaf z l =
+        told 0 (sound_zero 0 skip refl refl refl z l)
+        (told 1 (sound_two 1 m.registers m.locations load (λ a b. refl) (λ a b. refl) (λ a b. and_from _ _) z)
+        (told 2 (sound_two 2 m.locations m.registers store (λ a b. refl) (λ a b. refl) (λ a b. and_from _ _) z)
+        (told 3 (sound_two 3 m.registers m.values constant (λ a b. refl) (λ a b. refl) (λ a b. and_from _ _) z)
+        (told 4 (sound_two 4 m.registers m.registers copy (λ a b. refl) (λ a b. refl) (λ a b. and_from _ _) z)
+        (told 5 (sound_three 5 m.registers m.registers m.registers sum (λ a b c. refl) (λ a b c. refl) (λ a b c x y u. and_from _ _ x (and_from _ _ y u)) z)
+        (told 6 (sound_three 6 m.registers m.registers m.registers equal (λ a b c. refl) (λ a b c. refl) (λ a b c x y u. and_from _ _ x (and_from _ _ y u)) z)
+        (told 7 (sound_four 7 m.registers m.locations m.registers m.registers compare_and_swap (λ a b c d. refl) (λ a b c d. refl) (λ a b c d x y u v. and_from _ _ x (and_from _ _ y (and_from _ _ u v))) z)
+        (told 8 (sound_zero 8 fence refl refl refl z l)
+        (told 9 (sound_one 9 m.registers get (λ a. refl) (λ a. refl) (λ a x. x) z)
+        (told 10 (sound_one 10 m.registers print (λ a. refl) (λ a. refl) (λ a x. x) z)
+        (λ e. absurd (no_ok _ z e))))))))))))
 
     sound_declare : (q : Command × ℕ) → get_or bs at 0 ≡ 12 → declare_at m blocks bs depth seen at to ≡ Ok q → Is q
     sound_declare q h e =
@@ -238,19 +212,10 @@ module _ (m : Sizes) (bs : List ℕ) (b : Bytes bs) where
     pub sound_c : (q : Command × ℕ) → at < to → parse_c m blocks bs depth seen at to ≡ Ok q → SoundC m bs depth seen at to q.0 q.1
     sound_c q h e =
         let c = keep (ltb seen 32) TooMuch at _ q e in
-        elim (pick (get_or bs at 0) 11 _ _ q c.1) [
-          | inl w ↦ sound_branch q w.0 w.1
-          | inr e₁ ↦ elim (pick (get_or bs at 0) 12 _ _ q e₁) [
-            | inl w ↦ sound_declare q w.0 w.1
-            | inr e₂ ↦ sound_leaf q h e₂
-          ]
-        ]
+        told 11 (sound_branch q) (told 12 (sound_declare q) (sound_leaf q h)) c.1
 
   pub sound_b : (f depth seen at to : ℕ) (t : Block) → to - at < f → at ≤ to → seen ≤ 32 → parse_b m f bs depth seen at to ≡ Ok t → SoundB m bs depth seen at to t
-  sound_b zero depth seen at to t h l n e = elim (never h) [ ]
-    where
-      never : to - at < 0 → ⊥
-      never h = omega arith
+  sound_b zero depth seen at to t h l n e = absurd (omega arith)
   sound_b (suc f) depth seen at to t h l n e =
       by (eqb at to) refl
       (λ k x y u a b c d g. sound_b f (depth + 1) k x y u (omega arith) c a g)
