@@ -54,7 +54,7 @@ pub record NestedRead (p : Result (Block × ℕ) Refusal) (ns ns' : List Stateme
   pub more : all ≡ seen + size_b body
   pub size : count ≡ size_b body
 
--- What was read and laid, or the same refusal.
+-- It was read, and laid behind what there was; or it is refused the same.
 abbrev pub ReadB : Result (Unit {0}) Refusal → Result Block Refusal → Laid → Laid → Type 0
 ReadB (Ok _) p o o' = BlockRead p o.statements o'.statements o.len o'.len
 ReadB (Err e) p o o' = p ≡ Err e
@@ -75,7 +75,7 @@ blocks_of s f = parse_b (sizes s.limits) f s.bytes.now (s.depth + 1)
 abbrev pub nested_at : (ℕ → ℕ → ℕ → Result Block Refusal) → List ℕ → ℕ → ℕ → ℕ → ℕ → Result (Block × ℕ) Refusal
 nested_at blocks bs depth seen at to = and_then (inner_at bs depth at to) (λ i. and_then (blocks seen i.start i.end) (λ t. Ok (t, i.end)))
 
--- How the answer stands to the specification where a reader is: of the rest of its block, and of a command there.
+-- What a reader answers is what is read where it stood, behind what was laid: the rest of its block, an inner block, a command.
 abbrev pub ReadsBlock : Reader → Laid → Result (Unit {0}) Refusal → Laid → Type 0
 ReadsBlock s o r o' =
     (f : ℕ) → s.source.end - s.at < f
@@ -86,7 +86,7 @@ ReadsNested s o r s' o' =
     (f : ℕ) → s.source.end - s.at ≤ f
     → ReadN r (nested_at (blocks_of s.source f) s.source.bytes.now s.source.depth o.len s.at s.source.end) o o' s'.at
 
--- The function is parse_c, branch_at or declare_at.
+-- `parse` is parse_c, branch_at or declare_at.
 abbrev pub ReadsCommand : (Sizes → (ℕ → ℕ → ℕ → Result Block Refusal) → List ℕ → ℕ → ℕ → ℕ → ℕ → Result (Command × ℕ) Refusal)
     → Reader → Laid → Result (Unit {0}) Refusal → Reader → Laid → Type 0
 ReadsCommand parse s o r s' o' =

@@ -11,7 +11,7 @@ mod leaf;
 
 pub use blocks::read_body;
 
-/// The bytes up to the end of a block, and how deep it lies.
+/// A block in the bytes: how deep it lies, and where it ends.
 #[derive(Clone, Copy)]
 struct Source<'a> {
     bytes: &'a [u8],
@@ -22,7 +22,7 @@ struct Source<'a> {
     ghost shallow: { depth ≤ 8 },
 }
 
-/// Takes what a block holds, from a place on.
+/// Takes what a block holds, from the place where it stands.
 #[derive(Clone, Copy)]
 struct Reader<'a> {
     source: Source<'a>,
@@ -50,7 +50,7 @@ impl Laid {
     }
 }
 
-impl<'a> Source<'a> {
+impl Source<'_> {
     /// Where the block whose length stands at a place begins and ends.
     fn span(&self, at: usize) -> Result<Range<usize>, Refusal>
         ensures value { result ≡ span_at self.now.bytes.now at self.now.end }
@@ -71,7 +71,7 @@ impl<'a> Source<'a> {
     }
 }
 
-impl<'a> Reader<'a> {
+impl Reader<'_> {
     /// Takes the number of a statement.
     fn number(&mut self) -> u8
         requires { self.old.at < self.old.source.end }
@@ -102,6 +102,7 @@ impl<'a> Reader<'a> {
     }
 }
 
+/// That what stands at a place is declined.
 fn refused<T>(cause: Cause, place: usize) -> Result<T, Refusal>
     ensures { result ≡ declined cause place }
 {

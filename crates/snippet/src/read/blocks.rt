@@ -9,7 +9,7 @@ use crate::limits::Limits;
 use crate::statement::Statement;
 use trace::{Cause, Refusal};
 
-impl<'a> Reader<'a> {
+impl Reader<'_> {
     /// Takes the rest of the block.
     #[cycle(blocks)]
     fn block(mut self, out: &mut Laid) -> Result<(), Refusal>

@@ -10,7 +10,7 @@ use crate::limits::Limits;
 use crate::statement::Statement;
 use trace::{Cause, Refusal};
 
-impl<'a> Reader<'a> {
+impl Reader<'_> {
     /// Takes a statement without blocks.
     pub(super) fn leaf(&mut self) -> Result<Statement, Refusal>
         requires { self.old.at < self.old.source.end }
