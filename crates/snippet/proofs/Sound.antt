@@ -41,75 +41,52 @@ module _ (m : Sizes) (bs : List ℕ) (b : Bytes bs) where
     abbrev Is : Command × ℕ → Type 0
     Is q = SoundC m bs depth seen at to q.0 q.1
 
-    sound_zero : (n : ℕ) (s : Command) → encode_c s ≡ n ∷ [] → size_c s ≡ 1 → keeps_c m depth s ≡ true → (z : Command × ℕ) → at < to → get_or bs at 0 ≡ n → ◌≡◌ {A = Result (Command × ℕ) Refusal} (Ok (s, at + 1)) (Ok z) → Is z
-    sound_zero n s en st proper z l h e =
+    -- A command without blocks, from its number and its operands.
+    plain : (n : ℕ) (s : Command) (xs : List ℕ) (next : ℕ) → encode_c s ≡ n ∷ xs → size_c s ≡ 1 → keeps_c m depth s ≡ true
+        → get_or bs at 0 ≡ n → Holds 0 bs (at + 1) xs → next ≡ at + 1 + length xs → next ≤ to → Is (s, next)
+    plain n s xs next en st proper h hs e w =
         let le = ap length en in
-        subst Is (ok_inj _ _ e) record { holds = rw en (h, tt); ends = omega (arith, le); more = omega arith; within = omega arith; few = omega (arith, st); proper = proper }
+        record { holds = rw en (h, hs); ends = omega (arith, le); more = omega arith; within = w; few = omega (arith, st); proper = proper }
+
+    sound_zero : (n : ℕ) (s : Command) → encode_c s ≡ n ∷ [] → size_c s ≡ 1 → keeps_c m depth s ≡ true → (z : Command × ℕ) → at < to → get_or bs at 0 ≡ n → ◌≡◌ {A = Result (Command × ℕ) Refusal} (Ok (s, at + 1)) (Ok z) → Is z
+    sound_zero n s en st proper z l h e = subst Is (ok_inj _ _ e) (plain n s [] (at + 1) en st proper h tt (omega arith) (omega arith))
 
     sound_one : (n : ℕ) (p : ℕ) (mk : ℕ → Command) → ((a : ℕ) → encode_c (mk a) ≡ n ∷ a ∷ []) → ((a : ℕ) → size_c (mk a) ≡ 1) → ((a : ℕ) → ltb a p ≡ true → keeps_c m depth (mk a) ≡ true)
         → (z : Command × ℕ) → get_or bs at 0 ≡ n → one bs p mk at to ≡ Ok z → Is z
-    sound_one n p mk enc steps proper z h e₀ =
-        let o0 = both _ _ z (e₀) in
+    sound_one n p mk enc steps proper z h e =
+        let o0 = both _ _ z e in
         let x0 = operand_ok bs (at + 1) to p o0.0 o0.1.0 in
-        let en = enc o0.0 in
-        let st = steps o0.0 in
-        let le = ap length en in
         subst Is (ok_inj _ _ o0.1.1)
-        record {
-          holds = rw en (h, (x0.0, tt));
-          ends = omega (arith, le);
-          more = omega arith;
-          within = omega (arith, x0.1);
-          few = omega (arith, st);
-          proper = proper o0.0 x0.2;
-        }
+        (plain n (mk o0.0) (o0.0 ∷ []) (at + 2) (enc o0.0) (steps o0.0) (proper o0.0 x0.2) h (x0.0, tt) (omega arith) (omega (arith, x0.1)))
 
     sound_two : (n : ℕ) (p q : ℕ) (mk : ℕ → ℕ → Command) → ((a b : ℕ) → encode_c (mk a b) ≡ n ∷ a ∷ b ∷ []) → ((a b : ℕ) → size_c (mk a b) ≡ 1) → ((a b : ℕ) → ltb a p ≡ true → ltb b q ≡ true → keeps_c m depth (mk a b) ≡ true)
         → (z : Command × ℕ) → get_or bs at 0 ≡ n → two bs p q mk at to ≡ Ok z → Is z
-    sound_two n p q mk enc steps proper z h e₀ =
-        let o0 = both _ _ z (e₀) in
+    sound_two n p q mk enc steps proper z h e =
+        let o0 = both _ _ z e in
         let o1 = both _ _ z o0.1.1 in
         let x0 = operand_ok bs (at + 1) to p o0.0 o0.1.0 in
         let x1 = operand_ok bs (at + 2) to q o1.0 o1.1.0 in
-        let en = enc o0.0 o1.0 in
-        let st = steps o0.0 o1.0 in
-        let le = ap length en in
         subst Is (ok_inj _ _ o1.1.1)
-        record {
-          holds = rw en (h, (x0.0, (there bs (at + 2) (at + 1 + 1) o1.0 (omega arith) x1.0, tt)));
-          ends = omega (arith, le);
-          more = omega arith;
-          within = omega (arith, x1.1);
-          few = omega (arith, st);
-          proper = proper o0.0 o1.0 x0.2 x1.2;
-        }
+        (plain n (mk o0.0 o1.0) (o0.0 ∷ o1.0 ∷ []) (at + 3) (enc o0.0 o1.0) (steps o0.0 o1.0) (proper o0.0 o1.0 x0.2 x1.2) h
+        (x0.0, (there bs (at + 2) (at + 1 + 1) o1.0 (omega arith) x1.0, tt)) (omega arith) (omega (arith, x1.1)))
 
     sound_three : (n : ℕ) (p q r : ℕ) (mk : ℕ → ℕ → ℕ → Command) → ((a b c : ℕ) → encode_c (mk a b c) ≡ n ∷ a ∷ b ∷ c ∷ []) → ((a b c : ℕ) → size_c (mk a b c) ≡ 1) → ((a b c : ℕ) → ltb a p ≡ true → ltb b q ≡ true → ltb c r ≡ true → keeps_c m depth (mk a b c) ≡ true)
         → (z : Command × ℕ) → get_or bs at 0 ≡ n → three bs p q r mk at to ≡ Ok z → Is z
-    sound_three n p q r mk enc steps proper z h e₀ =
-        let o0 = both _ _ z (e₀) in
+    sound_three n p q r mk enc steps proper z h e =
+        let o0 = both _ _ z e in
         let o1 = both _ _ z o0.1.1 in
         let o2 = both _ _ z o1.1.1 in
         let x0 = operand_ok bs (at + 1) to p o0.0 o0.1.0 in
         let x1 = operand_ok bs (at + 2) to q o1.0 o1.1.0 in
         let x2 = operand_ok bs (at + 3) to r o2.0 o2.1.0 in
-        let en = enc o0.0 o1.0 o2.0 in
-        let st = steps o0.0 o1.0 o2.0 in
-        let le = ap length en in
         subst Is (ok_inj _ _ o2.1.1)
-        record {
-          holds = rw en (h, (x0.0, (there bs (at + 2) (at + 1 + 1) o1.0 (omega arith) x1.0, (there bs (at + 3) (at + 1 + 1 + 1) o2.0 (omega arith) x2.0, tt))));
-          ends = omega (arith, le);
-          more = omega arith;
-          within = omega (arith, x2.1);
-          few = omega (arith, st);
-          proper = proper o0.0 o1.0 o2.0 x0.2 x1.2 x2.2;
-        }
+        (plain n (mk o0.0 o1.0 o2.0) (o0.0 ∷ o1.0 ∷ o2.0 ∷ []) (at + 4) (enc o0.0 o1.0 o2.0) (steps o0.0 o1.0 o2.0) (proper o0.0 o1.0 o2.0 x0.2 x1.2 x2.2) h
+        (x0.0, (there bs (at + 2) (at + 1 + 1) o1.0 (omega arith) x1.0, (there bs (at + 3) (at + 1 + 1 + 1) o2.0 (omega arith) x2.0, tt))) (omega arith) (omega (arith, x2.1)))
 
     sound_four : (n : ℕ) (p q r s : ℕ) (mk : ℕ → ℕ → ℕ → ℕ → Command) → ((a b c d : ℕ) → encode_c (mk a b c d) ≡ n ∷ a ∷ b ∷ c ∷ d ∷ []) → ((a b c d : ℕ) → size_c (mk a b c d) ≡ 1) → ((a b c d : ℕ) → ltb a p ≡ true → ltb b q ≡ true → ltb c r ≡ true → ltb d s ≡ true → keeps_c m depth (mk a b c d) ≡ true)
         → (z : Command × ℕ) → get_or bs at 0 ≡ n → four bs p q r s mk at to ≡ Ok z → Is z
-    sound_four n p q r s mk enc steps proper z h e₀ =
-        let o0 = both _ _ z (e₀) in
+    sound_four n p q r s mk enc steps proper z h e =
+        let o0 = both _ _ z e in
         let o1 = both _ _ z o0.1.1 in
         let o2 = both _ _ z o1.1.1 in
         let o3 = both _ _ z o2.1.1 in
@@ -117,18 +94,9 @@ module _ (m : Sizes) (bs : List ℕ) (b : Bytes bs) where
         let x1 = operand_ok bs (at + 2) to q o1.0 o1.1.0 in
         let x2 = operand_ok bs (at + 3) to r o2.0 o2.1.0 in
         let x3 = operand_ok bs (at + 4) to s o3.0 o3.1.0 in
-        let en = enc o0.0 o1.0 o2.0 o3.0 in
-        let st = steps o0.0 o1.0 o2.0 o3.0 in
-        let le = ap length en in
         subst Is (ok_inj _ _ o3.1.1)
-        record {
-          holds = rw en (h, (x0.0, (there bs (at + 2) (at + 1 + 1) o1.0 (omega arith) x1.0, (there bs (at + 3) (at + 1 + 1 + 1) o2.0 (omega arith) x2.0, (there bs (at + 4) (at + 1 + 1 + 1 + 1) o3.0 (omega arith) x3.0, tt)))));
-          ends = omega (arith, le);
-          more = omega arith;
-          within = omega (arith, x3.1);
-          few = omega (arith, st);
-          proper = proper o0.0 o1.0 o2.0 o3.0 x0.2 x1.2 x2.2 x3.2;
-        }
+        (plain n (mk o0.0 o1.0 o2.0 o3.0) (o0.0 ∷ o1.0 ∷ o2.0 ∷ o3.0 ∷ []) (at + 5) (enc o0.0 o1.0 o2.0 o3.0) (steps o0.0 o1.0 o2.0 o3.0) (proper o0.0 o1.0 o2.0 o3.0 x0.2 x1.2 x2.2 x3.2) h
+        (x0.0, (there bs (at + 2) (at + 1 + 1) o1.0 (omega arith) x1.0, (there bs (at + 3) (at + 1 + 1 + 1) o2.0 (omega arith) x2.0, (there bs (at + 4) (at + 1 + 1 + 1 + 1) o3.0 (omega arith) x3.0, tt)))) (omega arith) (omega (arith, x3.1)))
 
     -- The number of a command is one, or the rest holds.
     told : (n : ℕ) {x y : Result (Command × ℕ) Refusal} {z : Command × ℕ} → (get_or bs at 0 ≡ n → x ≡ Ok z → Is z) → (y ≡ Ok z → Is z) → cond (eqb (get_or bs at 0) n) x y ≡ Ok z → Is z
