@@ -9,7 +9,6 @@ use Rattle.trace.proofs.Lists.{sets-append}
 use Rattle.std.specs.declared.ops.Range.{Range}
 use lib.Seq.{sets, set_comm}
 use Rattle.snippet.specs.declared.statement.Statement.{Statement}
-use Rattle.snippet.specs.declared.statement.Statement.TheVariants.{If, Declare}
 
 -- A bound that is passed is a successor.
 pub by_suc : (P : ℕ → Type 0) (n : ℕ) → ((g : ℕ) → n ≤ g → P (suc g)) → (f : ℕ) → n < f → P f
@@ -53,21 +52,15 @@ laid_then ns ns₁ ns₂ seen next s b p q r =
     let n : next ≡ seen + length (flat_c s) = q ∙ ap (λ k. seen + k) (sym (length_c s)) in
     r ∙ rw (p, n) (sym (sets-append ns seen (flat_c s) (flat_b b)))
 
-pub laid_declare : (ns ns₁ : List Statement) (seen a x n : ℕ) (b : Block)
-    → ns₁ ≡ sets ns (seen + 1) (flat_b b) → n ≡ size_b b → set ns₁ seen (Declare a x n) ≡ sets ns seen (flat_c (declare a x b))
-laid_declare ns ns₁ seen a x n b p q =
-    rw (p, q) (set-sets ns seen (seen + 1) (Declare a x (size_b b)) (flat_b b) (omega arith)
-    ∙ ap (λ (k : ℕ). sets (set ns seen (Declare a x (size_b b))) k (flat_b b)) (add-one seen))
+-- A statement at the place that was kept for it.
+pub laid_at : (ns : List Statement) (seen : ℕ) (v : Statement) (a : List Statement) → set (sets ns (seen + 1) a) seen v ≡ sets ns seen (v ∷ a)
+laid_at ns seen v a = set-sets ns seen (seen + 1) v a (omega arith) ∙ ap (λ (k : ℕ). sets (set ns seen v) k a) (add-one seen)
 
-pub laid_branch : (ns ns₁ ns₂ : List Statement) (seen middle a n k : ℕ) (t e : Block)
-    → ns₁ ≡ sets ns (seen + 1) (flat_b t) → middle ≡ seen + 1 + size_b t → ns₂ ≡ sets ns₁ middle (flat_b e)
-    → n ≡ size_b t → k ≡ size_b e → set ns₂ seen (If a n k) ≡ sets ns seen (flat_c (branch a t e))
-laid_branch ns ns₁ ns₂ seen middle a n k t e p m q x y =
-    let l : middle ≡ seen + 1 + length (flat_b t) = m ∙ ap (λ k. seen + 1 + k) (sym (length_b t)) in
-    let both : ns₂ ≡ sets ns (seen + 1) (flat_b t ++ flat_b e) = q ∙ rw (p, l) (sym (sets-append ns (seen + 1) (flat_b t) (flat_b e))) in
-    let v = If a (size_b t) (size_b e) in
-    rw (both, x, y) (set-sets ns seen (seen + 1) v (flat_b t ++ flat_b e) (omega arith)
-    ∙ ap (λ (k : ℕ). sets (set ns seen v) k (flat_b t ++ flat_b e)) (add-one seen))
+pub laid_both : (ns ns₁ ns₂ : List Statement) (at middle : ℕ) (t e : Block)
+    → ns₁ ≡ sets ns at (flat_b t) → middle ≡ at + size_b t → ns₂ ≡ sets ns₁ middle (flat_b e) → ns₂ ≡ sets ns at (flat_b t ++ flat_b e)
+laid_both ns ns₁ ns₂ at middle t e p m q =
+    let l : middle ≡ at + length (flat_b t) = m ∙ ap (λ k. at + k) (sym (length_b t)) in
+    q ∙ rw (p, l) (sym (sets-append ns at (flat_b t) (flat_b e)))
 
 pub is_branch : (m : Sizes) (blocks : ℕ → ℕ → ℕ → Result Block Refusal) (bs : List ℕ) (depth seen at to a : ℕ) (i j : Range ℕ) (t : Block) (middle : ℕ) (e : Block)
     → operand_at bs (at + 1) to m.registers ≡ Ok a → inner_at bs depth (at + 2) to ≡ Ok i → blocks (seen + 1) i.start i.end ≡ Ok t

@@ -1,8 +1,8 @@
 -- What the functions of the reader say of what they read, in the words of Parse.
-use Rattle.std.specs.Prelude.{◌≡◌, ℕ, ◌+◌, ◌-◌, ◌<◌, ◌≤◌, List, Ok, Err, Result}
+use Rattle.std.specs.Prelude.{◌≡◌, ℕ, ◌+◌, ◌-◌, ◌<◌, ◌≤◌, List, ◌∷◌, length, Ok, Err, Result}
 use Rattle.std.proofs.lemmas.List.Edits.{sets}
 use Rattle.trace.specs.declared.refusal.Refusal.{Refusal}
-use Rattle.snippet.specs.Program.{Block, Command, end, size_b, size_c}
+use Rattle.snippet.specs.Program.{Block, Command, end, size_b}
 use Rattle.snippet.specs.Layout.{flat_b, flat_c, command_of}
 use Rattle.snippet.specs.Keeps.{Sizes, sizes}
 use Rattle.snippet.specs.Meant.{block_of}
@@ -40,12 +40,6 @@ pub record BlockRead (p : Result Block Refusal) (ns ns' : List Statement) (seen 
   pub laid : ns' ≡ sets ns seen (flat_b body)
   pub count : all ≡ seen + size_b body
 
-pub record CommandRead (p : Result (Command × ℕ) Refusal) (ns ns' : List Statement) (seen next all : ℕ) : Type 0 where
-  pub command : Command
-  pub is : p ≡ Ok (command, next)
-  pub laid : ns' ≡ sets ns seen (flat_c command)
-  pub count : all ≡ seen + size_c command
-
 -- An inner block that was read behind its length, with the number of its statements.
 pub record NestedRead (p : Result (Block × ℕ) Refusal) (ns ns' : List Statement) (seen next all count : ℕ) : Type 0 where
   pub body : Block
@@ -54,18 +48,27 @@ pub record NestedRead (p : Result (Block × ℕ) Refusal) (ns ns' : List Stateme
   pub more : all ≡ seen + size_b body
   pub size : count ≡ size_b body
 
+-- A command that was read, whose own statement is `n`: those of its blocks are laid behind the place that is kept for it.
+pub record StatementRead (p : Result (Command × ℕ) Refusal) (n : Statement) (ns ns' : List Statement) (seen next all : ℕ) : Type 0 where
+  pub command : Command
+  pub rest : List Statement
+  pub is : p ≡ Ok (command, next)
+  pub flat : flat_c command ≡ n ∷ rest
+  pub laid : ns' ≡ sets ns seen rest
+  pub count : all ≡ seen + length rest
+
 -- It was read, and laid behind what there was; or it is refused the same.
-abbrev pub ReadB : Result (Unit {0}) Refusal → Result Block Refusal → Laid → Laid → Type 0
-ReadB (Ok _) p o o' = BlockRead p o.statements o'.statements o.len o'.len
-ReadB (Err e) p o o' = p ≡ Err e
+abbrev pub ReadB : Result (Unit {0}) Refusal → Result Block Refusal → List Statement → ℕ → Laid → Type 0
+ReadB (Ok _) p ns seen o = BlockRead p ns o.statements seen o.len
+ReadB (Err e) p ns seen o = p ≡ Err e
 
-abbrev pub ReadC : Result (Unit {0}) Refusal → Result (Command × ℕ) Refusal → Laid → Laid → ℕ → Type 0
-ReadC (Ok _) p o o' next = CommandRead p o.statements o'.statements o.len next o'.len
-ReadC (Err e) p o o' next = p ≡ Err e
+abbrev pub ReadS : Result Statement Refusal → Result (Command × ℕ) Refusal → List Statement → ℕ → Laid → ℕ → Type 0
+ReadS (Ok n) p ns seen o next = StatementRead p n ns o.statements seen next o.len
+ReadS (Err e) p ns seen o next = p ≡ Err e
 
-abbrev pub ReadN : Result ℕ Refusal → Result (Block × ℕ) Refusal → Laid → Laid → ℕ → Type 0
-ReadN (Ok n) p o o' next = NestedRead p o.statements o'.statements o.len next o'.len n
-ReadN (Err e) p o o' next = p ≡ Err e
+abbrev pub ReadN : Result ℕ Refusal → Result (Block × ℕ) Refusal → List Statement → ℕ → Laid → ℕ → Type 0
+ReadN (Ok n) p ns seen o next = NestedRead p ns o.statements seen next o.len n
+ReadN (Err e) p ns seen o next = p ≡ Err e
 
 -- The inner blocks of a block, from a place to an end, with the commands before them. The first number bounds the reading.
 abbrev pub blocks_of : Source → ℕ → ℕ → ℕ → ℕ → Result Block Refusal
@@ -79,19 +82,19 @@ nested_at blocks bs depth seen at to = and_then (inner_at bs depth at to) (λ i.
 abbrev pub ReadsBlock : Reader → Laid → Result (Unit {0}) Refusal → Laid → Type 0
 ReadsBlock s o r o' =
     (f : ℕ) → s.source.end - s.at < f
-    → ReadB r (parse_b (sizes s.source.limits) f s.source.bytes.now s.source.depth o.len s.at s.source.end) o o'
+    → ReadB r (parse_b (sizes s.source.limits) f s.source.bytes.now s.source.depth o.len s.at s.source.end) o.statements o.len o'
 
 abbrev pub ReadsNested : Reader → Laid → Result ℕ Refusal → Reader → Laid → Type 0
 ReadsNested s o r s' o' =
     (f : ℕ) → s.source.end - s.at ≤ f
-    → ReadN r (nested_at (blocks_of s.source f) s.source.bytes.now s.source.depth o.len s.at s.source.end) o o' s'.at
+    → ReadN r (nested_at (blocks_of s.source f) s.source.bytes.now s.source.depth o.len s.at s.source.end) o.statements o.len o' s'.at
 
--- `parse` is parse_c, branch_at or declare_at.
-abbrev pub ReadsCommand : (Sizes → (ℕ → ℕ → ℕ → Result Block Refusal) → List ℕ → ℕ → ℕ → ℕ → ℕ → Result (Command × ℕ) Refusal)
-    → Reader → Laid → Result (Unit {0}) Refusal → Reader → Laid → Type 0
-ReadsCommand parse s o r s' o' =
-    (f : ℕ) → s.source.end - s.at ≤ f
-    → ReadC r (parse (sizes s.source.limits) (blocks_of s.source f) s.source.bytes.now s.source.depth o.len s.at s.source.end) o o' s'.at
+-- `parse` is parse_c, branch_at or declare_at, and `seen` counts the commands before the place that is kept.
+abbrev pub ReadsStatement : (Sizes → (ℕ → ℕ → ℕ → Result Block Refusal) → List ℕ → ℕ → ℕ → ℕ → ℕ → Result (Command × ℕ) Refusal)
+    → Reader → Laid → Result Statement Refusal → Reader → Laid → Type 0
+ReadsStatement parse s o r s' o' =
+    (seen f : ℕ) → o.len ≡ seen + 1 → s.source.end - s.at ≤ f
+    → ReadS r (parse (sizes s.source.limits) (blocks_of s.source f) s.source.bytes.now s.source.depth seen s.at s.source.end) o.statements o.len o' s'.at
 
 -- The command that a statement without blocks is.
 abbrev pub leaf_of : Statement → Command

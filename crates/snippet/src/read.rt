@@ -1,4 +1,4 @@
-ghost use Rattle.std.specs.Prelude.{◌≡◌, ◌+◌, ◌<◌, ◌≤◌, length, slice_index, slice_set, IfOk, OnOk};
+ghost use Rattle.std.specs.Prelude.{◌≡◌, ◌+◌, ◌<◌, ◌≤◌, length, slice_index, IfOk, OnOk};
 ghost use Rattle.snippet.specs.Parse.{declined, operand_at, span_at};
 
 use crate::limits::Limits;
@@ -37,17 +37,6 @@ struct Laid {
     len: usize,
     ghost full: { length statements ≡ 32 },
     ghost few: { len ≤ 32 },
-}
-
-impl Laid {
-    fn push(&mut self, statement: Statement)
-        requires { self.old.len < 32 }
-        ensures statements { self.new.statements ≡ slice_set self.old.statements self.old.len statement }
-        ensures len { self.new.len ≡ self.old.len + 1 }
-    {
-        self.statements[self.len] = statement;
-        self.len += 1;
-    }
 }
 
 impl Source<'_> {

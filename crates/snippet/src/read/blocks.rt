@@ -1,7 +1,7 @@
 ghost use Rattle.std.specs.Prelude.{◌≡◌, ◌<◌, length, OnOk};
 ghost use Rattle.snippet.specs.Keeps.{sizes};
 ghost use Rattle.snippet.specs.Parse.{branch_at, declare_at, parse_c, body_at};
-ghost use Rattle.snippet.specs.Reads.{Gives, ReadsBlock, ReadsNested, ReadsCommand, placed, Under, After};
+ghost use Rattle.snippet.specs.Reads.{Gives, ReadsBlock, ReadsNested, ReadsStatement, placed, Under, After};
 
 use super::{Laid, Reader, Source, refused};
 use crate::body::Body;
@@ -10,82 +10,68 @@ use crate::statement::Statement;
 use trace::{Cause, Refusal};
 
 impl Reader<'_> {
-    /// Takes the rest of the block.
+    /// Takes the rest of the block. A statement's place is kept until those of its blocks are counted.
     #[cycle(blocks)]
     fn block(mut self, out: &mut Laid) -> Result<(), Refusal>
         ensures { ReadsBlock self.entry out.old result out.new }
     {
         while self.at < self.source.end {
-            self.statement(out)?;
+            let place = out.len;
+            if place >= 32 {
+                return refused(Cause::TooMuch, self.at);
+            }
+            out.len += 1;
+            let statement = self.statement(out)?;
+            out.statements[place] = statement;
         }
         Ok(())
     }
 
-    /// Takes a statement with its blocks.
+    /// Takes a statement, and lays those of its blocks.
     #[cycle(blocks)]
-    fn statement(&mut self, out: &mut Laid) -> Result<(), Refusal>
+    fn statement(&mut self, out: &mut Laid) -> Result<Statement, Refusal>
         requires { self.old.at < self.old.source.end }
-        ensures reads { ReadsCommand parse_c self.old out.old result self.new out.new }
+        ensures reads { ReadsStatement parse_c self.old out.old result self.new out.new }
         ensures ahead { OnOk result (self.old.at < self.new.at) }
         ensures source { self.new.source ≡ self.old.source }
     {
-        if out.len >= 32 {
-            return refused(Cause::TooMuch, self.at);
-        }
         match self.source.bytes[self.at] {
             11 => self.branch(out),
             12 => self.declared(out),
-            _ => {
-                out.push(self.leaf()?);
-                Ok(())
-            }
+            _ => self.leaf(),
         }
     }
 
-    /// Takes an if, which is written once the statements of its blocks are counted.
+    /// Takes an if.
     #[cycle(blocks)]
-    fn branch(&mut self, out: &mut Laid) -> Result<(), Refusal>
-        requires place { self.old.at < self.old.source.end }
-        requires room { out.old.len < 32 }
-        ensures reads { ReadsCommand branch_at self.old out.old result self.new out.new }
+    fn branch(&mut self, out: &mut Laid) -> Result<Statement, Refusal>
+        requires { self.old.at < self.old.source.end }
+        ensures reads { ReadsStatement branch_at self.old out.old result self.new out.new }
         ensures ahead { OnOk result (self.old.at < self.new.at) }
         ensures source { self.new.source ≡ self.old.source }
     {
         self.number();
-        let register = self.operand(self.source.limits.registers)?;
-        let place = out.len;
-        out.len += 1;
-        let nonzero = self.nested(out)?;
-        let zero = self.nested(out)?;
-        out.statements[place] = Statement::If {
-            register,
-            nonzero,
-            zero,
-        };
-        Ok(())
+        Ok(Statement::If {
+            register: self.operand(self.source.limits.registers)?,
+            nonzero: self.nested(out)?,
+            zero: self.nested(out)?,
+        })
     }
 
-    /// Takes a declared register, which is written once the statements of its block are counted.
+    /// Takes a declared register.
     #[cycle(blocks)]
-    fn declared(&mut self, out: &mut Laid) -> Result<(), Refusal>
-        requires place { self.old.at < self.old.source.end }
-        requires room { out.old.len < 32 }
-        ensures reads { ReadsCommand declare_at self.old out.old result self.new out.new }
+    fn declared(&mut self, out: &mut Laid) -> Result<Statement, Refusal>
+        requires { self.old.at < self.old.source.end }
+        ensures reads { ReadsStatement declare_at self.old out.old result self.new out.new }
         ensures ahead { OnOk result (self.old.at < self.new.at) }
         ensures source { self.new.source ≡ self.old.source }
     {
         self.number();
-        let register = self.operand(self.source.limits.registers)?;
-        let value = self.operand(self.source.limits.values)?;
-        let place = out.len;
-        out.len += 1;
-        let inner = self.nested(out)?;
-        out.statements[place] = Statement::Declare {
-            register,
-            value,
-            inner,
-        };
-        Ok(())
+        Ok(Statement::Declare {
+            register: self.operand(self.source.limits.registers)?,
+            value: self.operand(self.source.limits.values)?,
+            inner: self.nested(out)?,
+        })
     }
 
     /// Takes an inner block, and answers how many statements it has.

@@ -1,7 +1,6 @@
 ghost use Rattle.std.specs.Prelude.{◌≡◌, ◌<◌, [], ◌∷◌, IfOk, OnOk};
 ghost use Rattle.snippet.specs.Keeps.{sizes};
 ghost use Rattle.snippet.specs.Layout.{flat_c};
-ghost use Rattle.snippet.specs.Program.{size_c};
 ghost use Rattle.snippet.specs.Parse.{leaf_at};
 ghost use Rattle.snippet.specs.Reads.{Gives, leaf_of};
 
@@ -17,7 +16,6 @@ impl Reader<'_> {
         ensures gives { Gives result (leaf_at (sizes self.old.source.limits) self.old.source.bytes.now self.old.at self.old.source.end) (λ s. (leaf_of s, self.new.at)) }
         ensures ahead { OnOk result (self.old.at < self.new.at) }
         ensures flat { IfOk result (λ s. flat_c (leaf_of s) ≡ s ∷ []) }
-        ensures single { IfOk result (λ s. size_c (leaf_of s) ≡ 1) }
         ensures source { self.new.source ≡ self.old.source }
     {
         let Limits {
