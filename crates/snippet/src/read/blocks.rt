@@ -50,6 +50,7 @@ impl Reader<'_> {
         ensures ahead { OnOk result (self.old.at < self.new.at) }
         ensures source { self.new.source ≡ self.old.source }
     {
+        // The number is known.
         self.number();
         Ok(Statement::If {
             register: self.operand(self.source.limits.registers)?,
@@ -66,6 +67,7 @@ impl Reader<'_> {
         ensures ahead { OnOk result (self.old.at < self.new.at) }
         ensures source { self.new.source ≡ self.old.source }
     {
+        // The number is known.
         self.number();
         Ok(Statement::Declare {
             register: self.operand(self.source.limits.registers)?,
