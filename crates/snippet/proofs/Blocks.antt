@@ -58,14 +58,8 @@ command_same B C (Declare a x b) at to h k =
 module _ (ns : List Statement) where
   fuel : (f g at to : ℕ) → to - at < f → to - at < g → block_by f ns at to ≡ block_by g ns at to
   unfolding block_by
-  fuel zero g at to h k = elim (never h) [ ]
-    where
-      never : to - at < 0 → ⊥
-      never h = omega arith
-  fuel (suc f) zero at to h k = elim (never k) [ ]
-    where
-      never : to - at < 0 → ⊥
-      never h = omega arith
+  fuel zero g at to h k = absurd (omega arith)
+  fuel (suc f) zero at to h k = absurd (omega arith)
   fuel (suc f) (suc g) at to h k = by (ltb at to) refl (λ l. command_same (block_by f ns) (block_by g ns) (get_or ns at Skip) at to l (λ x y p q. fuel f g x y (omega arith) (omega arith))) (λ l. let w = after_within (get_or ns at Skip) at to l in fuel f g (after (get_or ns at Skip) at to) to (omega (arith, w.0, w.1)) (omega (arith, w.0, w.1)))
     where
       by : (c : Bool) → ltb at to ≡ c → {s t : Command} {x y : Block} → (at < to → s ≡ t) → (at < to → x ≡ y) → cond c (then s x) end ≡ cond c (then t y) end

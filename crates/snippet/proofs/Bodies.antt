@@ -24,12 +24,12 @@ module _ (m : Sizes) (bs : List ℕ) (at : ℕ) where
       let n = span_ok bs at (length bs) i.0 i.1.0 in
       let f = n.from in
       let g = n.to' in
-      let s = sound_b m bs b (suc (i.0.to - i.0.from)) 0 0 i.0.from i.0.to t.0 (omega arith) (omega arith) (omega arith) t.1.0 in
+      let s = sound_b m bs b (suc (i.0.end - i.0.start)) 0 0 i.0.start i.0.end t.0 (omega arith) (omega arith) (omega arith) t.1.0 in
       let d = s.ends in
       let l : length (encode_b t.0) ≡ get_or bs at 0 * 256 + get_or bs (at + 1) 0 = omega arith in
       subst (λ (q : Block × ℕ). Placed m bs at q.0 q.1) (ok_inj _ _ t.1.1)
       record {
-        holds = sized_holds bs at (encode_b t.0) b l (moved 0 bs i.0.from (at + 2) (encode_b t.0) f s.holds);
+        holds = sized_holds bs at (encode_b t.0) b l (moved 0 bs i.0.start (at + 2) (encode_b t.0) f s.holds);
         ends = omega arith;
         within = n.within;
         few = omega (arith, s.few);

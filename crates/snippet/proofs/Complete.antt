@@ -9,7 +9,7 @@ use Rattle.snippet.specs.Keeps.{Sizes, keeps_b, keeps_c}
 use Rattle.snippet.specs.Encode.{sized, encode_b, encode_c}
 use Rattle.snippet.specs.Parse.{and_then, one, two, three, four, branch_at, declare_at, parse_c, parse_b}
 use Rattle.trace.specs.declared.refusal.Refusal.{Refusal}
-use Rattle.snippet.specs.declared.span.Span.{Span}
+use Rattle.std.specs.declared.ops.Range.{Range}
 
 longer : (s : Command) → 1 ≤ length (encode_c s)
 longer skip = omega arith
@@ -116,29 +116,29 @@ module _ (m : Sizes) (bs : List ℕ) where
         let two = sized (encode_b e) in
         let la = length-append one two in
         let r : Holds 0 bs (at + 4) (one ++ two) = moved 0 bs (at + 1 + 1 + 1 + 1) (at + 4) (one ++ two) (omega arith) h.1.1.1.1 in
-        let i : Span = record { from = at + 2 + 2; to = at + 2 + 2 + length one } in
+        let i : Range ℕ = record { start = at + 2 + 2; end = at + 2 + 2 + length one } in
         let w = back 0 bs (at + 4) one two r in
-        let x = moved 0 bs (at + 4 + length one) i.to two (omega arith) w in
-        let j : Span = record { from = i.to + 2; to = i.to + 2 + length (encode_b e) } in
-        let is : branch_at m blocks bs depth seen at to ≡ Ok (branch a t e, j.to) =
+        let x = moved 0 bs (at + 4 + length one) i.end two (omega arith) w in
+        let j : Range ℕ = record { start = i.end + 2; end = i.end + 2 + length (encode_b e) } in
+        let is : branch_at m blocks bs depth seen at to ≡ Ok (branch a t e, j.end) =
         is_branch m blocks bs depth seen at to a i j t (seen + 1 + size_b t) e
         (operand_is bs (at + 1) to m.registers a h.1.0 (omega arith) p0.0)
         (inner_is bs depth (at + 2) to (length one) (there bs (at + 1 + 1) (at + 2) _ (omega arith) h.1.1.0) (there bs (at + 1 + 1 + 1) (at + 2 + 1) _ (omega arith) h.1.1.1.0) (omega arith) p1.0)
-        (complete_b t g (depth + 1) (seen + 1) (at + 2 + 2) i.to (moved 0 bs (at + 4) (at + 2 + 2) one (omega arith) (front 0 bs (at + 4) one two r)) refl (omega arith) p2.0 (omega arith))
+        (complete_b t g (depth + 1) (seen + 1) (at + 2 + 2) i.end (moved 0 bs (at + 4) (at + 2 + 2) one (omega arith) (front 0 bs (at + 4) one two r)) refl (omega arith) p2.0 (omega arith))
         refl
-        (inner_is bs depth i.to to (length (encode_b e)) x.0 x.1.0 (omega arith) p1.0)
-        (complete_b e g (depth + 1) (seen + 1 + size_b t) j.from j.to (moved 0 bs (i.to + 1 + 1) j.from (encode_b e) (omega arith) x.1.1) refl (omega arith) p2.1 (omega arith)) in
-        branch_at_lem m blocks bs depth seen at to (omega arith) h.0 ∙ is ∙ ends (branch a t e) j.to _ (omega arith)
+        (inner_is bs depth i.end to (length (encode_b e)) x.0 x.1.0 (omega arith) p1.0)
+        (complete_b e g (depth + 1) (seen + 1 + size_b t) j.start j.end (moved 0 bs (i.end + 1 + 1) j.start (encode_b e) (omega arith) x.1.1) refl (omega arith) p2.1 (omega arith)) in
+        branch_at_lem m blocks bs depth seen at to (omega arith) h.0 ∙ is ∙ ends (branch a t e) j.end _ (omega arith)
     complete_c (declare a v b) g depth seen at to h k n p f =
         let p0 = and_parts (ltb a m.registers) (ltb v m.values && (ltb depth 8 && keeps_b m (depth + 1) b)) p in
         let p1 = and_parts (ltb v m.values) (ltb depth 8 && keeps_b m (depth + 1) b) p0.1 in
         let p2 = and_parts (ltb depth 8) (keeps_b m (depth + 1) b) p1.1 in
         let blocks = parse_b m g bs (depth + 1) in
-        let i : Span = record { from = at + 3 + 2; to = at + 3 + 2 + length (encode_b b) } in
-        let is : declare_at m blocks bs depth seen at to ≡ Ok (declare a v b, i.to) =
+        let i : Range ℕ = record { start = at + 3 + 2; end = at + 3 + 2 + length (encode_b b) } in
+        let is : declare_at m blocks bs depth seen at to ≡ Ok (declare a v b, i.end) =
         is_declare m blocks bs depth seen at to a v i b
         (operand_is bs (at + 1) to m.registers a h.1.0 (omega arith) p0.0)
         (operand_is bs (at + 2) to m.values v (there bs (at + 1 + 1) (at + 2) v (omega arith) h.1.1.0) (omega arith) p1.0)
         (inner_is bs depth (at + 3) to (length (encode_b b)) (there bs (at + 1 + 1 + 1) (at + 3) _ (omega arith) h.1.1.1.0) (there bs (at + 1 + 1 + 1 + 1) (at + 3 + 1) _ (omega arith) h.1.1.1.1.0) (omega arith) p2.0)
-        (complete_b b g (depth + 1) (seen + 1) i.from i.to (moved 0 bs (at + 1 + 1 + 1 + 1 + 1) i.from (encode_b b) (omega arith) h.1.1.1.1.1) refl (omega arith) p2.1 (omega arith)) in
-        declare_at_lem m blocks bs depth seen at to (omega arith) h.0 ∙ is ∙ ends (declare a v b) i.to _ (omega arith)
+        (complete_b b g (depth + 1) (seen + 1) i.start i.end (moved 0 bs (at + 1 + 1 + 1 + 1 + 1) i.start (encode_b b) (omega arith) h.1.1.1.1.1) refl (omega arith) p2.1 (omega arith)) in
+        declare_at_lem m blocks bs depth seen at to (omega arith) h.0 ∙ is ∙ ends (declare a v b) i.end _ (omega arith)

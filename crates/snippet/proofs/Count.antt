@@ -1,7 +1,7 @@
--- The statements of a block that take a choice, and powers of at most 4,096.
-use Rattle.std.proofs.Common.{◌≡◌, ℕ, ◌+◌, ◌*◌, ◌^◌, ◌<◌, ◌≤◌, List, [], ◌∷◌, ◌++◌, length, get_or, take, refl, ap, ◌∙◌, mul-le-mul, pow-suc, add-one, arith}
-use native.Mathlib.Nat.{pow-le-pow_right}
-use Rattle.std.proofs.lemmas.List.{take_more}
+-- The statements of a block that take a choice.
+use Rattle.std.proofs.Common.{◌≡◌, ℕ, ◌+◌, ◌==◌, cond, List, [], ◌∷◌, ◌++◌, refl, arith}
+use Rattle.std.specs.List.{count_by}
+use Rattle.std.proofs.lemmas.List.Recursion.{is_count_by}
 use Rattle.snippet.specs.Program.{Block, Command, end, then, skip, load, store, constant, copy, sum, equal, compare_and_swap, fence, get, print, branch, declare, choices_b, choices_c}
 use Rattle.snippet.specs.Layout.{flat_b, flat_c}
 use Rattle.snippet.specs.Runs.{takes, counted}
@@ -40,32 +40,21 @@ mutual
       omega arith
   count_c (declare a x b) = let r = count_b b in omega arith
 
-pub count_more : (xs : List Statement) (i : ℕ) (d : Statement) → i < length xs → counted (take (i + 1) xs) ≡ counted (take i xs) + takes (get_or xs i d)
-count_more xs i d h =
-    let e = ap counted (take_more xs i d h) in
-    let f = counted-++ (take i xs) (get_or xs i d ∷ []) in
-    omega arith
+-- A statement takes one choice or none, so the choices are the statements that take one.
+counted_more : (s : Statement) (n : ℕ) → takes s + n ≡ cond (takes s == 1) (1 + n) n
+counted_more Skip n = omega arith
+counted_more (Load a b) n = omega arith
+counted_more (Store a b) n = omega arith
+counted_more (Constant a b) n = omega arith
+counted_more (Copy a b) n = omega arith
+counted_more (Sum a b c) n = omega arith
+counted_more (Equal a b c) n = omega arith
+counted_more (CompareAndSwap a b c d) n = omega arith
+counted_more Fence n = omega arith
+counted_more (Get a) n = omega arith
+counted_more (Print a) n = omega arith
+counted_more (If a t e) n = omega arith
+counted_more (Declare a x b) n = omega arith
 
-pub takes_few : (s : Statement) → takes s ≤ 1
-takes_few Skip = omega arith
-takes_few (Load a b) = omega arith
-takes_few (Store a b) = omega arith
-takes_few (Constant a b) = omega arith
-takes_few (Copy a b) = omega arith
-takes_few (Sum a b c) = omega arith
-takes_few (Equal a b c) = omega arith
-takes_few (CompareAndSwap a b c d) = omega arith
-takes_few Fence = omega arith
-takes_few (Get a) = omega arith
-takes_few (Print a) = omega arith
-takes_few (If a t e) = omega arith
-takes_few (Declare a x b) = omega arith
-
-pub power_more : (b i : ℕ) → b ^ (i + 1) ≡ b ^ i * b
-power_more b i = ap (λ (k : ℕ). b ^ k) (add-one i) ∙ pow-suc b i
-
-pub power_over : (b i n : ℕ) → 1 ≤ b → i ≤ n → 4096 < b ^ i → 4096 < b ^ n
-power_over b i n h l p = let q : b ^ i ≤ b ^ n = pow-le-pow_right h l in omega arith
-
-pub product_few : (t b : ℕ) → t ≤ 4096 → b ≤ 4 → t * b ≤ 16384
-product_few t b h k = let p : t * b ≤ 4096 * 4 = mul-le-mul h k in omega arith
+pub counted_is : (xs : List Statement) → counted xs ≡ count_by (λ s. takes s == 1) xs
+counted_is xs = is_count_by counted (λ s. takes s == 1) refl (λ s xs. counted_more s (counted xs)) xs

@@ -35,14 +35,8 @@ module _ {A : Type 0} (d : A) where
 
   pub whole : (ns xs : List A) → Holds ns 0 xs → length xs ≡ length ns → ns ≡ xs
   whole [] [] h e = refl
-  whole [] (x ∷ xs) h e = elim (never e) [ ]
-    where
-      never : suc (length xs) ≡ 0 → ⊥
-      never e = omega arith
-  whole (n ∷ ns) [] h e = elim (never e) [ ]
-    where
-      never : 0 ≡ suc (length ns) → ⊥
-      never e = omega arith
+  whole [] (x ∷ xs) h e = absurd (omega arith)
+  whole (n ∷ ns) [] h e = absurd (omega arith)
   whole (n ∷ ns) (x ∷ xs) h e =
       let p : ns ≡ xs = whole ns xs (down n ns 0 xs h.1) (omega arith) in
       ap (λ (z : A). z ∷ ns) h.0 ∙ ap (λ (z : List A). x ∷ z) p

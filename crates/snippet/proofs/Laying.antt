@@ -4,20 +4,15 @@ use Rattle.snippet.specs.Program.{Block, Command, end, then, skip, load, store, 
 use Rattle.snippet.specs.Layout.{flat_b, flat_c}
 use Rattle.snippet.specs.Keeps.{Sizes}
 use Rattle.snippet.specs.Parse.{operand_at, inner_at, branch_at, declare_at, parse_c}
-use Rattle.snippet.specs.Reads.{ReadC}
 use Rattle.trace.specs.declared.refusal.Refusal.{Refusal}
 use Rattle.trace.proofs.Lists.{sets-append}
-use Rattle.snippet.specs.declared.span.Span.{Span}
+use Rattle.std.specs.declared.ops.Range.{Range}
 use lib.Seq.{sets, set_comm}
 use Rattle.snippet.specs.declared.statement.Statement.{Statement}
-use Rattle.snippet.specs.declared.statement.Statement.TheVariants.{If, Declare}
 
 -- A bound that is passed is a successor.
 pub by_suc : (P : ℕ → Type 0) (n : ℕ) → ((g : ℕ) → n ≤ g → P (suc g)) → (f : ℕ) → n < f → P f
-by_suc P n k zero h = elim (never h) [ ]
-  where
-    never : n < 0 → ⊥
-    never h = omega arith
+by_suc P n k zero h = absurd (omega arith)
 by_suc P n k (suc g) h = k g (omega arith)
 
 mutual
@@ -57,32 +52,26 @@ laid_then ns ns₁ ns₂ seen next s b p q r =
     let n : next ≡ seen + length (flat_c s) = q ∙ ap (λ k. seen + k) (sym (length_c s)) in
     r ∙ rw (p, n) (sym (sets-append ns seen (flat_c s) (flat_b b)))
 
-pub laid_declare : (ns ns₁ : List Statement) (seen a x n : ℕ) (b : Block)
-    → ns₁ ≡ sets ns (seen + 1) (flat_b b) → n ≡ size_b b → set ns₁ seen (Declare a x n) ≡ sets ns seen (flat_c (declare a x b))
-laid_declare ns ns₁ seen a x n b p q =
-    rw (p, q) (set-sets ns seen (seen + 1) (Declare a x (size_b b)) (flat_b b) (omega arith)
-    ∙ ap (λ (k : ℕ). sets (set ns seen (Declare a x (size_b b))) k (flat_b b)) (add-one seen))
+-- A statement at the place that was kept for it.
+pub laid_at : (ns : List Statement) (seen : ℕ) (v : Statement) (a : List Statement) → set (sets ns (seen + 1) a) seen v ≡ sets ns seen (v ∷ a)
+laid_at ns seen v a = set-sets ns seen (seen + 1) v a (omega arith) ∙ ap (λ (k : ℕ). sets (set ns seen v) k a) (add-one seen)
 
-pub laid_branch : (ns ns₁ ns₂ : List Statement) (seen middle a n k : ℕ) (t e : Block)
-    → ns₁ ≡ sets ns (seen + 1) (flat_b t) → middle ≡ seen + 1 + size_b t → ns₂ ≡ sets ns₁ middle (flat_b e)
-    → n ≡ size_b t → k ≡ size_b e → set ns₂ seen (If a n k) ≡ sets ns seen (flat_c (branch a t e))
-laid_branch ns ns₁ ns₂ seen middle a n k t e p m q x y =
-    let l : middle ≡ seen + 1 + length (flat_b t) = m ∙ ap (λ k. seen + 1 + k) (sym (length_b t)) in
-    let both : ns₂ ≡ sets ns (seen + 1) (flat_b t ++ flat_b e) = q ∙ rw (p, l) (sym (sets-append ns (seen + 1) (flat_b t) (flat_b e))) in
-    let v = If a (size_b t) (size_b e) in
-    rw (both, x, y) (set-sets ns seen (seen + 1) v (flat_b t ++ flat_b e) (omega arith)
-    ∙ ap (λ (k : ℕ). sets (set ns seen v) k (flat_b t ++ flat_b e)) (add-one seen))
+pub laid_both : (ns ns₁ ns₂ : List Statement) (at middle : ℕ) (t e : Block)
+    → ns₁ ≡ sets ns at (flat_b t) → middle ≡ at + size_b t → ns₂ ≡ sets ns₁ middle (flat_b e) → ns₂ ≡ sets ns at (flat_b t ++ flat_b e)
+laid_both ns ns₁ ns₂ at middle t e p m q =
+    let l : middle ≡ at + length (flat_b t) = m ∙ ap (λ k. at + k) (sym (length_b t)) in
+    q ∙ rw (p, l) (sym (sets-append ns at (flat_b t) (flat_b e)))
 
-pub is_branch : (m : Sizes) (blocks : ℕ → ℕ → ℕ → Result Block Refusal) (bs : List ℕ) (depth seen at to a : ℕ) (i j : Span) (t : Block) (middle : ℕ) (e : Block)
-    → operand_at bs (at + 1) to m.registers ≡ Ok a → inner_at bs depth (at + 2) to ≡ Ok i → blocks (seen + 1) i.from i.to ≡ Ok t
-    → middle ≡ seen + 1 + size_b t → inner_at bs depth i.to to ≡ Ok j → blocks middle j.from j.to ≡ Ok e
-    → branch_at m blocks bs depth seen at to ≡ Ok (branch a t e, j.to)
+pub is_branch : (m : Sizes) (blocks : ℕ → ℕ → ℕ → Result Block Refusal) (bs : List ℕ) (depth seen at to a : ℕ) (i j : Range ℕ) (t : Block) (middle : ℕ) (e : Block)
+    → operand_at bs (at + 1) to m.registers ≡ Ok a → inner_at bs depth (at + 2) to ≡ Ok i → blocks (seen + 1) i.start i.end ≡ Ok t
+    → middle ≡ seen + 1 + size_b t → inner_at bs depth i.end to ≡ Ok j → blocks middle j.start j.end ≡ Ok e
+    → branch_at m blocks bs depth seen at to ≡ Ok (branch a t e, j.end)
 is_branch m blocks bs depth seen at to a i j t middle e p q r n u w =
     rw (p, q, r, u, ← n, w) refl
 
-pub is_declare : (m : Sizes) (blocks : ℕ → ℕ → ℕ → Result Block Refusal) (bs : List ℕ) (depth seen at to a x : ℕ) (i : Span) (b : Block)
-    → operand_at bs (at + 1) to m.registers ≡ Ok a → operand_at bs (at + 2) to m.values ≡ Ok x → inner_at bs depth (at + 3) to ≡ Ok i → blocks (seen + 1) i.from i.to ≡ Ok b
-    → declare_at m blocks bs depth seen at to ≡ Ok (declare a x b, i.to)
+pub is_declare : (m : Sizes) (blocks : ℕ → ℕ → ℕ → Result Block Refusal) (bs : List ℕ) (depth seen at to a x : ℕ) (i : Range ℕ) (b : Block)
+    → operand_at bs (at + 1) to m.registers ≡ Ok a → operand_at bs (at + 2) to m.values ≡ Ok x → inner_at bs depth (at + 3) to ≡ Ok i → blocks (seen + 1) i.start i.end ≡ Ok b
+    → declare_at m blocks bs depth seen at to ≡ Ok (declare a x b, i.end)
 is_declare m blocks bs depth seen at to a x i b p q r u = rw (p, q, r, u) refl
 
 module _ (m : Sizes) (blocks : ℕ → ℕ → ℕ → Result Block Refusal) (bs : List ℕ) (depth seen at to : ℕ) (h : seen < 32) where
@@ -91,7 +80,3 @@ module _ (m : Sizes) (blocks : ℕ → ℕ → ℕ → Result Block Refusal) (bs
 
   pub declare_at_lem : get_or bs at 0 ≡ 12 → parse_c m blocks bs depth seen at to ≡ declare_at m blocks bs depth seen at to
   declare_at_lem e = rw (lt-ltb seen 32 h, e) refl
-
--- The same reading under another name.
-pub via_c : (r : Result (ℕ × ℕ) Refusal) {p q : Result (Command × ℕ) Refusal} (ns ns' : List Statement) (seen : ℕ) → p ≡ q → ReadC r q ns ns' seen → ReadC r p ns ns' seen
-via_c r ns ns' seen e h = rw e h

@@ -1,4 +1,5 @@
 pub mod Laying
+pub mod Reading
 pub mod Blocks
 pub mod Holds
 pub mod Flat

@@ -5,7 +5,7 @@ use Rattle.trace.specs.declared.refusal.Cause.{Cause}
 use Rattle.trace.specs.declared.refusal.Cause.TheVariants.{Missing, Unknown, TooMuch}
 use Rattle.snippet.specs.Program.{Block, Command, end, then, skip, load, store, constant, copy, sum, equal, compare_and_swap, fence, get, print, branch, declare, size_b, size_c}
 use Rattle.snippet.specs.Keeps.{Sizes}
-use Rattle.snippet.specs.declared.span.Span.{Span}
+use Rattle.std.specs.declared.ops.Range.{Range}
 
 abbrev pub refusal : Cause → ℕ → Refusal
 refusal cause at = record { cause = cause; place = at }
@@ -24,16 +24,16 @@ operand_at bs at to limit =
     cond (nat_lt at to) (cond (nat_lt (slice_index bs at) limit) (Ok (slice_index bs at)) (declined Unknown at)) (declined Missing at)
 
 -- Where the block whose length stands at a place begins and ends: within what holds it.
-abbrev pub span_at : List ℕ → ℕ → ℕ → Result Span Refusal
+abbrev pub span_at : List ℕ → ℕ → ℕ → Result (Range ℕ) Refusal
 span_at bs at to =
     cond (nat_lt (to - at) 2)
     (declined Missing at)
     (cond (nat_lt (to - (at + 2)) (slice_index bs at * 256 + slice_index bs (at + 1)))
     (declined Missing at)
-    (Ok (record { from = at + 2; to = at + 2 + (slice_index bs at * 256 + slice_index bs (at + 1)) })))
+    (Ok (record { start = at + 2; end = at + 2 + (slice_index bs at * 256 + slice_index bs (at + 1)) })))
 
 -- The same inside a block of a depth, which is below eight.
-abbrev pub inner_at : List ℕ → ℕ → ℕ → ℕ → Result Span Refusal
+abbrev pub inner_at : List ℕ → ℕ → ℕ → ℕ → Result (Range ℕ) Refusal
 inner_at bs depth at to = and_then (span_at bs at to) (λ i. cond (nat_lt depth 8) (Ok i) (declined TooMuch at))
 
 -- A command of so many operands below their limits, and the place after it.
@@ -73,16 +73,16 @@ leaf_at m bs at to =
 abbrev pub branch_at : Sizes → (ℕ → ℕ → ℕ → Result Block Refusal) → List ℕ → ℕ → ℕ → ℕ → ℕ → Result (Command × ℕ) Refusal
 branch_at m blocks bs depth seen at to =
     and_then (operand_at bs (at + 1) to m.registers) (λ a.
-    and_then (inner_at bs depth (at + 2) to) (λ i. and_then (blocks (seen + 1) i.from i.to) (λ t.
-    and_then (inner_at bs depth i.to to) (λ j. and_then (blocks (seen + 1 + size_b t) j.from j.to) (λ e.
-    Ok (branch a t e, j.to))))))
+    and_then (inner_at bs depth (at + 2) to) (λ i. and_then (blocks (seen + 1) i.start i.end) (λ t.
+    and_then (inner_at bs depth i.end to) (λ j. and_then (blocks (seen + 1 + size_b t) j.start j.end) (λ e.
+    Ok (branch a t e, j.end))))))
 
 abbrev pub declare_at : Sizes → (ℕ → ℕ → ℕ → Result Block Refusal) → List ℕ → ℕ → ℕ → ℕ → ℕ → Result (Command × ℕ) Refusal
 declare_at m blocks bs depth seen at to =
     and_then (operand_at bs (at + 1) to m.registers) (λ a.
     and_then (operand_at bs (at + 2) to m.values) (λ x.
-    and_then (inner_at bs depth (at + 3) to) (λ i. and_then (blocks (seen + 1) i.from i.to) (λ b.
-    Ok (declare a x b, i.to)))))
+    and_then (inner_at bs depth (at + 3) to) (λ i. and_then (blocks (seen + 1) i.start i.end) (λ b.
+    Ok (declare a x b, i.end)))))
 
 -- A command with its blocks: nothing of a 33rd is read.
 abbrev pub parse_c : Sizes → (ℕ → ℕ → ℕ → Result Block Refusal) → List ℕ → ℕ → ℕ → ℕ → ℕ → Result (Command × ℕ) Refusal
@@ -105,4 +105,4 @@ parse_b m (suc f) bs depth seen at to =
 -- The body whose length stands at a place, and the place after it.
 abbrev pub body_at : Sizes → List ℕ → ℕ → Result (Block × ℕ) Refusal
 body_at m bs at =
-    and_then (span_at bs at (length bs)) (λ i. and_then (parse_b m (suc (i.to - i.from)) bs 0 0 i.from i.to) (λ t. Ok (t, i.to)))
+    and_then (span_at bs at (length bs)) (λ i. and_then (parse_b m (suc (i.end - i.start)) bs 0 0 i.start i.end) (λ t. Ok (t, i.end)))

@@ -1,13 +1,17 @@
 -- What the functions of the reader say of what they read, in the words of Parse.
-use Rattle.std.specs.Prelude.{◌≡◌, ℕ, ◌+◌, ◌<◌, ◌≤◌, List, [], ◌∷◌, Ok, Err, Result}
+use Rattle.std.specs.Prelude.{◌≡◌, ℕ, ◌+◌, ◌-◌, ◌<◌, ◌≤◌, List, ◌∷◌, length, Ok, Err, Result}
 use Rattle.std.proofs.lemmas.List.Edits.{sets}
 use Rattle.trace.specs.declared.refusal.Refusal.{Refusal}
-use Rattle.snippet.specs.Program.{Block, Command, end, size_b, size_c}
+use Rattle.snippet.specs.Program.{Block, Command, end, size_b}
 use Rattle.snippet.specs.Layout.{flat_b, flat_c, command_of}
+use Rattle.snippet.specs.Keeps.{Sizes, sizes}
 use Rattle.snippet.specs.Meant.{block_of}
+use Rattle.snippet.specs.Parse.{and_then, inner_at, parse_b}
 use Rattle.snippet.specs.declared.body.Body.{Body}
 use Rattle.snippet.specs.declared.limits.Limits.{Limits}
-use Rattle.snippet.specs.declared.span.Span.{Span}
+use Rattle.snippet.specs.declared.read.Laid.{Laid}
+use Rattle.snippet.specs.declared.read.Reader.{Reader}
+use Rattle.snippet.specs.declared.read.Source.{Source}
 use Rattle.snippet.specs.declared.statement.Statement.{Statement}
 
 -- The same answer: a value through `f`, a refusal as it is.
@@ -29,10 +33,6 @@ abbrev pub After : Result (Body × ℕ) Refusal → ℕ → Type 0
 After (Ok a) n = a.1 ≤ n
 After (Err e) n = Unit {0}
 
-abbrev pub Bounded : Result Body Refusal → Limits → Type 0
-Bounded (Ok b) m = b.limits ≡ m
-Bounded (Err e) m = Unit {0}
-
 -- A block that was read, and laid into the array from the place `seen` up to `all`.
 pub record BlockRead (p : Result Block Refusal) (ns ns' : List Statement) (seen all : ℕ) : Type 0 where
   pub body : Block
@@ -40,48 +40,62 @@ pub record BlockRead (p : Result Block Refusal) (ns ns' : List Statement) (seen 
   pub laid : ns' ≡ sets ns seen (flat_b body)
   pub count : all ≡ seen + size_b body
 
-pub record CommandRead (p : Result (Command × ℕ) Refusal) (ns ns' : List Statement) (seen next all : ℕ) : Type 0 where
+-- An inner block that was read behind its length, with the number of its statements.
+pub record NestedRead (p : Result (Block × ℕ) Refusal) (ns ns' : List Statement) (seen next all count : ℕ) : Type 0 where
+  pub body : Block
+  pub is : p ≡ Ok (body, next)
+  pub laid : ns' ≡ sets ns seen (flat_b body)
+  pub more : all ≡ seen + size_b body
+  pub size : count ≡ size_b body
+
+-- A command that was read, whose own statement is `n`: those of its blocks are laid behind the place that is kept for it.
+pub record StatementRead (p : Result (Command × ℕ) Refusal) (n : Statement) (ns ns' : List Statement) (seen next all : ℕ) : Type 0 where
   pub command : Command
+  pub rest : List Statement
   pub is : p ≡ Ok (command, next)
-  pub laid : ns' ≡ sets ns seen (flat_c command)
-  pub count : all ≡ seen + size_c command
+  pub flat : flat_c command ≡ n ∷ rest
+  pub laid : ns' ≡ sets ns seen rest
+  pub count : all ≡ seen + length rest
 
-abbrev pub ReadB : Result ℕ Refusal → Result Block Refusal → List Statement → List Statement → ℕ → Type 0
-ReadB (Ok all) p ns ns' seen = BlockRead p ns ns' seen all
-ReadB (Err e) p ns ns' seen = p ≡ Err e
+-- It was read, and laid behind what there was; or it is refused the same.
+abbrev pub ReadB : Result (Unit {0}) Refusal → Result Block Refusal → List Statement → ℕ → Laid → Type 0
+ReadB (Ok _) p ns seen o = BlockRead p ns o.statements seen o.len
+ReadB (Err e) p ns seen o = p ≡ Err e
 
-abbrev pub ReadC : Result (ℕ × ℕ) Refusal → Result (Command × ℕ) Refusal → List Statement → List Statement → ℕ → Type 0
-ReadC (Ok a) p ns ns' seen = CommandRead p ns ns' seen a.0 a.1
-ReadC (Err e) p ns ns' seen = p ≡ Err e
+abbrev pub ReadS : Result Statement Refusal → Result (Command × ℕ) Refusal → List Statement → ℕ → Laid → ℕ → Type 0
+ReadS (Ok n) p ns seen o next = StatementRead p n ns o.statements seen next o.len
+ReadS (Err e) p ns seen o next = p ≡ Err e
 
--- Bounds on what was read.
-abbrev pub Before : Result ℕ Refusal → ℕ → ℕ → Type 0
-Before (Ok x) at to = at < to
-Before (Err e) at to = Unit {0}
+abbrev pub ReadN : Result ℕ Refusal → Result (Block × ℕ) Refusal → List Statement → ℕ → Laid → ℕ → Type 0
+ReadN (Ok n) p ns seen o next = NestedRead p ns o.statements seen next o.len n
+ReadN (Err e) p ns seen o next = p ≡ Err e
 
-abbrev pub Ahead : Result Span Refusal → ℕ → ℕ → Type 0
-Ahead (Ok i) at to = (at + 2 ≤ i.from) × (i.from ≤ i.to) × (i.to ≤ to)
-Ahead (Err e) at to = Unit {0}
+-- The inner blocks of a block, from a place to an end, with the commands before them. The first number bounds the reading.
+abbrev pub blocks_of : Source → ℕ → ℕ → ℕ → ℕ → Result Block Refusal
+blocks_of s f = parse_b (sizes s.limits) f s.bytes.now (s.depth + 1)
 
-abbrev pub Inside : Result Span Refusal → ℕ → ℕ → ℕ → Type 0
-Inside (Ok i) depth at to = (at + 2 ≤ i.from) × (i.from ≤ i.to) × (i.to ≤ to) × (depth < 8)
-Inside (Err e) depth at to = Unit {0}
+-- An inner block behind its length, and the place after it.
+abbrev pub nested_at : (ℕ → ℕ → ℕ → Result Block Refusal) → List ℕ → ℕ → ℕ → ℕ → ℕ → Result (Block × ℕ) Refusal
+nested_at blocks bs depth seen at to = and_then (inner_at bs depth at to) (λ i. and_then (blocks seen i.start i.end) (λ t. Ok (t, i.end)))
 
-abbrev pub Few : Result ℕ Refusal → ℕ → Type 0
-Few (Ok n) seen = (seen ≤ n) × (n ≤ 32)
-Few (Err e) seen = Unit {0}
+-- What a reader answers is what is read where it stood, behind what was laid: the rest of its block, an inner block, a command.
+abbrev pub ReadsBlock : Reader → Laid → Result (Unit {0}) Refusal → Laid → Type 0
+ReadsBlock s o r o' =
+    (f : ℕ) → s.source.end - s.at < f
+    → ReadB r (parse_b (sizes s.source.limits) f s.source.bytes.now s.source.depth o.len s.at s.source.end) o.statements o.len o'
 
-abbrev pub Within : Result (ℕ × ℕ) Refusal → ℕ → ℕ → ℕ → Type 0
-Within (Ok a) seen at to = (at < a.0) × (a.0 ≤ to) × (seen < a.1) × (a.1 ≤ 32)
-Within (Err e) seen at to = Unit {0}
+abbrev pub ReadsNested : Reader → Laid → Result ℕ Refusal → Reader → Laid → Type 0
+ReadsNested s o r s' o' =
+    (f : ℕ) → s.source.end - s.at ≤ f
+    → ReadN r (nested_at (blocks_of s.source f) s.source.bytes.now s.source.depth o.len s.at s.source.end) o.statements o.len o' s'.at
 
--- The command that a statement without blocks is, with the place after it.
+-- `parse` is parse_c, branch_at or declare_at, and `seen` counts the commands before the place that is kept.
+abbrev pub ReadsStatement : (Sizes → (ℕ → ℕ → ℕ → Result Block Refusal) → List ℕ → ℕ → ℕ → ℕ → ℕ → Result (Command × ℕ) Refusal)
+    → Reader → Laid → Result Statement Refusal → Reader → Laid → Type 0
+ReadsStatement parse s o r s' o' =
+    (seen f : ℕ) → o.len ≡ seen + 1 → s.source.end - s.at ≤ f
+    → ReadS r (parse (sizes s.source.limits) (blocks_of s.source f) s.source.bytes.now s.source.depth seen s.at s.source.end) o.statements o.len o' s'.at
+
+-- The command that a statement without blocks is.
 abbrev pub leaf_of : Statement → Command
 leaf_of n = command_of (λ x y. end) n 0 0
-
-abbrev pub leafy : Statement × ℕ → Command × ℕ
-leafy a = (leaf_of a.0, a.1)
-
-abbrev pub Plain : Result (Statement × ℕ) Refusal → ℕ → ℕ → Type 0
-Plain (Ok a) at to = (at < a.1) × (a.1 ≤ to) × (flat_c (leaf_of a.0) ≡ a.0 ∷ []) × (size_c (leaf_of a.0) ≡ 1)
-Plain (Err e) at to = Unit {0}

@@ -1,5 +1,5 @@
 -- How many runs a snippet has.
-use Rattle.std.specs.Prelude.{◌≡◌, ℕ, ◌+◌, ◌^◌, ◌<◌, ◌≤◌, List, [], ◌∷◌, Some, None, Ok, Err, Option, Result}
+use Rattle.std.specs.Prelude.{◌≡◌, ℕ, ◌+◌, ◌^◌, ◌<◌, ◌≤◌, List, [], ◌∷◌, Ok, Err, Result}
 use Rattle.trace.specs.declared.refusal.Refusal.{Refusal}
 use Rattle.trace.specs.declared.refusal.Cause.TheVariants.{TooManyRuns}
 use Rattle.snippet.specs.Program.{Block, choices_b}
@@ -39,8 +39,3 @@ takes (Declare a x b) = 0
 abbrev pub counted : List Statement → ℕ
 counted [] = 0
 counted (x ∷ xs) = takes x + counted xs
-
--- A power of at most 4,096, or that it is over.
-abbrev pub Powered : Option ℕ → ℕ → Type 0
-Powered (Some n) p = (n ≡ p) × (p ≤ 4096)
-Powered None p = 4096 < p

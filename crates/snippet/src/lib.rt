@@ -7,7 +7,6 @@ mod limits;
 mod read;
 mod runs;
 mod snippet;
-mod span;
 mod statement;
 
 pub use body::Body;
