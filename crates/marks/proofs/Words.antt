@@ -4,21 +4,14 @@ use mir.Syntax.{w64}
 use lib.Bits.{bit_and, bit_or, and_le_l}
 use lib.Count.{count_trailing_zeros, ones}
 use Rattle.std.specs.List.{sum_by}
+use Rattle.std.proofs.Math.Bool.{or-true, or-false}
 use Rattle.std.proofs.lemmas.Nat.{div-mul-add, mod-mul-add}
 use Rattle.std.proofs.lemmas.Nat.Bits.{bit_at-zero, bit_at_set_same, bit_at_set_other, bit_at-trailing_zeros}
-use Rattle.std.proofs.lemmas.List.{get_or_past, drop_more, length-drop}
+use Rattle.std.proofs.lemmas.List.{get_or_past, get_or-replicate, length-replicate, drop_more, length-drop}
 use Rattle.std.proofs.lemmas.List.Sums.{sum_by-cons}
 use Rattle.std.proofs.lemmas.Bool.{eq-eqb, ne_eqb, cases_eq, cases_lt}
 use Rattle.marks.specs.Marks.{bit, bit_of, Lowest, count_below}
 use Rattle.marks.proofs.Bits.{same_test, bit_left, ones_count, count_ext, count_add}
-
-or_false : (b : Bool) → b ≡ (b || false)
-or_false true = refl
-or_false false = refl
-
-or_true : (b : Bool) → true ≡ (b || true)
-or_true true = refl
-or_true false = refl
 
 -- a word with one bit more
 module _ (ws : List ℕ) (k : ℕ) where
@@ -32,7 +25,7 @@ module _ (ws : List ℕ) (k : ℕ) where
       elim (cases_eq (q / 64) (k / 64)) [
         | inr d ↦
             ap (λ (w : ℕ). bit w (q % 64)) (get_or-set_other ws (k / 64) (q / 64) more 0 d)
-            ∙ or_false _
+            ∙ sym (or-false _)
             ∙ ap (λ (b : Bool). bit_of ws q || b) (sym (ne_eqb q k (λ e. d (ap (λ (n : ℕ). n / 64) e))))
         | inl e ↦
             let here : get_or (set ws (k / 64) more) (q / 64) 0 ≡ more = ap (λ (i : ℕ). get_or (set ws (k / 64) more) i 0) e ∙ get_or-set_same ws (k / 64) more 0 h in
@@ -41,20 +34,18 @@ module _ (ws : List ℕ) (k : ℕ) where
               | inl s ↦
                   ap (λ (n : ℕ). bit more (n % 64)) s
                   ∙ same_test _ _ (bit_at_set_same w64 (get_or ws (k / 64) 0) (k % 64) low)
-                  ∙ or_true (bit_of ws q)
+                  ∙ sym (or-true (bit_of ws q))
                   ∙ ap (λ (b : Bool). bit_of ws q || b) (sym (eq-eqb q k s))
               | inr d ↦
                   same_test _ _ (bit_at_set_other w64 (get_or ws (k / 64) 0) (k % 64) low (q % 64) (λ m. d (omega arith)))
                   ∙ ap (λ (i : ℕ). bit (get_or ws i 0) (q % 64)) (sym e)
-                  ∙ or_false (bit_of ws q)
+                  ∙ sym (or-false (bit_of ws q))
                   ∙ ap (λ (b : Bool). bit_of ws q || b) (sym (ne_eqb q k d))
             ]
       ]
 
 none_at : (n i : ℕ) → ◌≡◌ {A = ℕ} (get_or {A = ℕ} (replicate n 0) i 0) 0
-none_at zero i = refl
-none_at (suc n) zero = refl
-none_at (suc n) (suc i) = none_at n i
+none_at n i = elim (cases_lt i n) [ inl h ↦ get_or-replicate n i 0 0 h | inr h ↦ get_or_past (replicate n 0) i 0 (omega (arith, length-replicate {A = ℕ} n 0)) ]
 
 pub no_bits : (n k : ℕ) → bit_of (replicate n 0) k ≡ false
 unfolding bit bit_of
