@@ -1,23 +1,17 @@
-use Rattle.std.proofs.Common.{ℕ, ◌+◌, ◌*◌, ◌^◌, ◌<◌, get_or, refl, ap, ◌∙◌, arith, rules}
-use lib.Count.{ones, ones-le}
+use Rattle.std.proofs.Common.{◌≡◌, ◌*◌, ap, ◌∙◌, arith, rules, tests}
+use lib.Count.{ones}
+use Rattle.std.specs.List.{sum_by}
+use Rattle.std.proofs.lemmas.Iterator.{YieldsList-from_slice}
+use Rattle.std.proofs.lemmas.Iterator.Adapters.{fits_from_length, at_most_from_yields_List}
 use Rattle.marks.specs.Marks.{marked, count_below}
-use Rattle.marks.proofs.Bits.{count_le}
-use Rattle.marks.proofs.Words.{count_word}
+use Rattle.marks.proofs.Words.{count_words}
 use Rattle.marks.proofs.marks.Marks.count.Goals as goal
 
-pub loop-i-init : goal.loop-i-init
-unfolding count_below
-loop-i-init c = refl
+pub sum-requires-clause-fits : goal.sum-requires-clause-fits
+sum-requires-clause-fits c = fits_from_length _ _ 64 _ (at_most_from_yields_List (YieldsList-from_slice c.args.self.now.words cc) (omega (arith, c.args.self.now.full))) c.map.ensures.closure (omega arith) (λ x r q k. search (rules, tests))
 
-pub overflow_add-total : goal.overflow_add-total
-overflow_add-total c =
+pub returns : goal.returns
+returns c =
     let s = c.args.self.now in
-    let w = get_or s.words c.loop-i.i 0 in
-    let small : w < 2 ^ 64 = search rules in
-    omega (arith, ones-le 64 w small, count_le (marked s) (c.loop-i.i * 64), c.loop-i.invariant)
-
-pub loop-i-preserved : goal.loop-i-preserved
-loop-i-preserved c =
-    let s = c.args.self.now in
-    let i = c.loop-i.i in
-    ap (λ (n : ℕ). n + ones (get_or s.words i 0)) c.loop-i.invariant ∙ count_word s.words i (search rules)
+    let e : c.sum.result ≡ sum_by ones s.words = search rules in
+    e ∙ count_words s.words (λ i. search rules) ∙ ap (λ n. count_below (marked s) (n * 64)) s.full
