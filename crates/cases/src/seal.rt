@@ -12,7 +12,7 @@ use ordering::Model;
 impl<M: Model + Drop> Case<M> {
     /// Ends the case. A sealed case takes no hand-in, and only a sealed case gives a report.
     pub fn seal(self) -> Sealed
-        ensures model { result.report.model ≡ M.number }
+        ensures model { result.report.model ≡ M.NUMBER }
         ensures count { Counted self result.report.matched result.report.active }
         ensures verdict { Verdict self result.report.lowest }
         ensures promise { (h : List Made) → Follows M.meaning self h → VerdictPromise (Unobservable (M.meaning self.model) (meant self.pair)) (M.meaning self.model) (meant self.pair) h result.report.lowest × CountPromise (M.meaning self.model) (meant self.pair) h result.report.matched result.report.active }

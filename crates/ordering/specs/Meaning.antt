@@ -38,8 +38,11 @@ StoreGoes m = (L : ℕ) → m.permits StoreAfterLoad L ≡ true → SwapsToo m L
 abbrev pub LoadGoes : Meaning → Type 0
 LoadGoes m = (L : ℕ) → m.permits LoadAfterStore L ≡ true → (m.forwards L ≡ true) ⊎ SwapsToo m Store Load L
 
+-- What every model must show: the soundness of a verdict rests on it.
 pub record Lawful (m : Meaning) : Type 0 where
   pub within : Within m
   pub together : OneLocation m
+  -- what rule 5 needs
   pub five : StoreGoes m
+  -- what rule 6 needs
   pub six : LoadGoes m

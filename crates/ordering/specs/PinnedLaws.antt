@@ -6,7 +6,7 @@ use Rattle.trace.specs.declared.event.Access.{Access}
 use Rattle.trace.specs.declared.event.Kind.{Kind}
 use Rattle.trace.specs.declared.event.Kind.TheVariants.{Load, Store}
 use Rattle.trace.specs.Words.{access}
-use Rattle.ordering.specs.Meaning.{Meaning, Within, OneLocation, SwapsToo, StoreGoes, LoadGoes}
+use Rattle.ordering.specs.Meaning.{Meaning, Within, OneLocation, SwapsToo, StoreGoes, LoadGoes, Lawful}
 use Rattle.ordering.specs.Pinning.{free, pinning}
 
 module _ (mask : ℕ) (m : Meaning) where
@@ -46,3 +46,6 @@ module _ (mask : ℕ) (m : Meaning) where
         | inl f ↦ elim (p L h) [ inl e ↦ inl (and_from (m.forwards L) (free mask L) e f) | inr s ↦ inr (same Store Load L s) ]
         | inr n ↦ inr (nothing Store Load L n)
       ]
+
+  pub pinned_lawful : Lawful m → Lawful (pinning mask m)
+  pinned_lawful l = record { within = pinned_within l.within; together = pinned_together l.together; five = pinned_five l.five; six = pinned_six l.six }

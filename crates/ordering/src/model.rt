@@ -1,5 +1,5 @@
 ghost use Rattle.std.specs.Prelude.{◌≡◌, ℕ};
-ghost use Rattle.ordering.specs.Meaning.{Meaning, Within, OneLocation, StoreGoes, LoadGoes};
+ghost use Rattle.ordering.specs.Meaning.{Meaning, Lawful};
 
 use trace::Access;
 
@@ -18,12 +18,16 @@ pub trait Model {
     /// The number that the report prints.
     const NUMBER: u8;
 
-    ghost number: { ℕ };
+    ghost NUMBER: { ℕ };
 
     ghost meaning: { Self → Meaning };
 
+    /// The same, of a model at hand.
     fn model_number(&self) -> u8
-        ensures { result ≡ number };
+        ensures { result ≡ NUMBER }
+    {
+        Self::NUMBER
+    }
 
     /// Whether the first access may swap with the second, just after it.
     fn may_swap(&self, first: Access, second: Access) -> bool
@@ -37,15 +41,7 @@ pub trait Model {
     fn permits(&self, removal: Removal, location: u8) -> bool
         ensures { result ≡ (meaning self.now).permits removal location };
 
-    // nothing is allowed above location 7
-    ghost within: { (m : Self) → Within (meaning m) };
-
-    // accesses to one location swap only if both are loads
-    ghost together: { (m : Self) → OneLocation (meaning m) };
-
-    // what rule 5 needs
-    ghost five: { (m : Self) → StoreGoes (meaning m) };
-
-    // what rule 6 needs
-    ghost six: { (m : Self) → LoadGoes (meaning m) };
+    // nothing is allowed above location 7, accesses to one location swap only if both are loads, and
+    // what is swapped or forwarded serves the removals by rules 5 and 6
+    ghost lawful: { (m : Self) → Lawful (meaning m) };
 }

@@ -41,21 +41,11 @@ pub struct Sc;
 impl OrderingModel for Sc {
     const NUMBER: u8 = 1;
 
-    ghost number = { 1 };
+    ghost NUMBER = { 1 };
 
     ghost meaning = { λ _. sc };
 
-    ghost within = { Prim.search rules };
-
-    ghost together = { Prim.search rules };
-
-    ghost five = { Prim.search rules };
-
-    ghost six = { Prim.search rules };
-
-    fn model_number(&self) -> u8 {
-        Self::NUMBER
-    }
+    ghost lawful = { Prim.search rules };
 
     fn may_swap(&self, _first: Access, _second: Access) -> bool {
         false
@@ -77,21 +67,11 @@ pub struct Ibm390;
 impl OrderingModel for Ibm390 {
     const NUMBER: u8 = 2;
 
-    ghost number = { 2 };
+    ghost NUMBER = { 2 };
 
     ghost meaning = { λ _. ibm390 };
 
-    ghost within = { Prim.search rules };
-
-    ghost together = { Prim.search rules };
-
-    ghost five = { Prim.search rules };
-
-    ghost six = { Prim.search rules };
-
-    fn model_number(&self) -> u8 {
-        Self::NUMBER
-    }
+    ghost lawful = { Prim.search rules };
 
     fn may_swap(&self, first: Access, second: Access) -> bool {
         store_then_load(first, second)
@@ -113,21 +93,11 @@ pub struct Tso;
 impl OrderingModel for Tso {
     const NUMBER: u8 = 3;
 
-    ghost number = { 3 };
+    ghost NUMBER = { 3 };
 
     ghost meaning = { λ _. tso };
 
-    ghost within = { Prim.search rules };
-
-    ghost together = { Prim.search rules };
-
-    ghost five = { Prim.search rules };
-
-    ghost six = { Prim.search rules };
-
-    fn model_number(&self) -> u8 {
-        Self::NUMBER
-    }
+    ghost lawful = { Prim.search rules };
 
     fn may_swap(&self, first: Access, second: Access) -> bool {
         store_then_load(first, second)
@@ -149,21 +119,11 @@ pub struct Pso;
 impl OrderingModel for Pso {
     const NUMBER: u8 = 4;
 
-    ghost number = { 4 };
+    ghost NUMBER = { 4 };
 
     ghost meaning = { λ _. pso };
 
-    ghost within = { Prim.search rules };
-
-    ghost together = { Prim.search rules };
-
-    ghost five = { Prim.search rules };
-
-    ghost six = { Prim.search rules };
-
-    fn model_number(&self) -> u8 {
-        Self::NUMBER
-    }
+    ghost lawful = { Prim.search rules };
 
     fn may_swap(&self, first: Access, second: Access) -> bool {
         matches!(first.kind, Kind::Store) && are_apart(first, second)
@@ -185,21 +145,11 @@ pub struct Clr;
 impl OrderingModel for Clr {
     const NUMBER: u8 = 5;
 
-    ghost number = { 5 };
+    ghost NUMBER = { 5 };
 
     ghost meaning = { λ _. clr };
 
-    ghost within = { Prim.search rules };
-
-    ghost together = { Prim.search rules };
-
-    ghost five = { Prim.search rules };
-
-    ghost six = { Prim.search rules };
-
-    fn model_number(&self) -> u8 {
-        Self::NUMBER
-    }
+    ghost lawful = { Prim.search rules };
 
     fn may_swap(&self, first: Access, second: Access) -> bool {
         match (first.kind, second.kind) {

@@ -1,5 +1,5 @@
 ghost use Rattle.ordering.specs.Pinning.{pinning};
-ghost use Rattle.ordering.specs.PinnedLaws.{pinned_within, pinned_together, pinned_five, pinned_six};
+ghost use Rattle.ordering.specs.PinnedLaws.{pinned_lawful};
 
 use crate::model::{Model as OrderingModel, Removal};
 use crate::pins::Pins;
@@ -16,21 +16,11 @@ pub struct Pinned<M> {
 impl<M: OrderingModel> OrderingModel for Pinned<M> {
     const NUMBER: u8 = M::NUMBER;
 
-    ghost number = { M.number };
+    ghost NUMBER = { M.NUMBER };
 
     ghost meaning = { λ m. pinning m.pins.mask (M.meaning m.under) };
 
-    ghost within = { λ m. pinned_within m.pins.mask (M.meaning m.under) (M.within m.under) };
-
-    ghost together = { λ m. pinned_together m.pins.mask (M.meaning m.under) (M.together m.under) };
-
-    ghost five = { λ m. pinned_five m.pins.mask (M.meaning m.under) (M.five m.under) };
-
-    ghost six = { λ m. pinned_six m.pins.mask (M.meaning m.under) (M.six m.under) };
-
-    fn model_number(&self) -> u8 {
-        self.under.model_number()
-    }
+    ghost lawful = { λ m. pinned_lawful m.pins.mask (M.meaning m.under) (M.lawful m.under) };
 
     fn may_swap(&self, first: Access, second: Access) -> bool {
         self.under.may_swap(first, second)

@@ -49,7 +49,7 @@ fn judge_with<M: Model + Drop>(
     pair: Pair,
     hand_ins: HandIns<'_>,
 ) -> Result<Vec<u8>, AllocError>
-    ensures { IfOk result (λ v. Lines M.number (M.meaning model) (meant pair) (files hand_ins.entry) v.items) }
+    ensures { IfOk result (λ v. Lines M.NUMBER (M.meaning model) (meant pair) (files hand_ins.entry) v.items) }
 {
     let mut case = Case::open(pair, model);
     let mut out = Vec::new(heap);

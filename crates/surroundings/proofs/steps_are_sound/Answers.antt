@@ -1,4 +1,3 @@
-use Rattle.ordering.proofs.Laws.{lawful}
 use Rattle.surroundings.proofs.Sound.{sound}
 use Rattle.surroundings.proofs.steps_are_sound.Goals as goal
 
@@ -7,5 +6,5 @@ returns g c v o r f =
     let m = c.args.model.now in
     let met = g.met.M.Model in
     let s = g.S.Sets in
-    let law = lawful g.M.Model.meaning met.within met.together met.five met.six m in
+    let law = met.lawful m in
     sound law v s.sets s.words (s.sets o) (s.sets r) f

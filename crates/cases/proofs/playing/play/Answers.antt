@@ -1,6 +1,5 @@
 use Rattle.std.proofs.Common.{◌≡◌, ℕ, ◌<◌, List, map, length, get_or, take, set, sym, refl, ap, ◌∙◌, subst, arith}
 use Rattle.std.proofs.lemmas.List.{take_all, length-map}
-use Rattle.ordering.proofs.Laws.{lawful}
 use Rattle.pairs.specs.Meant.{meant}
 use Rattle.pairs.specs.declared.pair.Pair.{Pair}
 use Rattle.cases.specs.declared.script.Standing.{Standing}
@@ -19,7 +18,7 @@ loop-i-preserved g c =
     let case = c.loop-i.case in
     let met = g.met.M.Model in
     let x = case.model in
-    let law = lawful g.M.Model.meaning met.within met.together met.five met.six x in
+    let law = met.lawful x in
     let cs = map call_of c.args.calls.now in
     let i = c.loop-i.i in
     let p = c.open-case.result.pair in
@@ -39,7 +38,7 @@ returns g c =
     let case = c.loop-i.case in
     let met = g.met.M.Model in
     let x = case.model in
-    let law = lawful g.M.Model.meaning met.within met.together met.five met.six x in
+    let law = met.lawful x in
     let calls = c.args.calls.now in
     let cs = map call_of calls in
     let i = c.loop-i.i in

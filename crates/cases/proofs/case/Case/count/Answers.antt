@@ -1,4 +1,3 @@
-use Rattle.ordering.proofs.Laws.{lawful}
 use Rattle.cases.specs.History.{count}
 use Rattle.cases.proofs.Histories.{marks_count}
 use Rattle.cases.proofs.Cases.{standing, going_on}
@@ -8,7 +7,7 @@ pub returns : goal.returns
 returns g c =
     let s = c.args.self.now in
     let met = g.met.M.Model in
-    let law = lawful g.M.Model.meaning met.within met.together met.five met.six in
+    let law = met.lawful in
     record {
       marks = (c.count.ensures, c.count-2.ensures);
       promise = λ h f. (standing g.M.Model.meaning s (law s.model) f).count _ _ (c.count.ensures, c.count-2.ensures);

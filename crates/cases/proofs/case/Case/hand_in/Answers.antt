@@ -1,6 +1,5 @@
 use Rattle.std.proofs.Common.{refl}
 use Rattle.std.proofs.lemmas.Result.{err_from_is_err_and}
-use Rattle.ordering.proofs.Laws.{lawful}
 use Rattle.marks.specs.Marks.{marked}
 use Rattle.judging.proofs.Settling.{names_one}
 use Rattle.cases.specs.History.{hand_in}
@@ -16,7 +15,7 @@ pub returns-clause-goes_on : goal.returns-clause-goes_on
 returns-clause-goes_on g c =
     let s = c.args.self.now in
     let met = g.met.M.Model in
-    let law = lawful g.M.Model.meaning met.within met.together met.five met.six in
+    let law = met.lawful in
     let n = c.in_ok-run.ensures.exactly in
     let run = c.in_ok-run.run' in
     going_on g.M.Model.meaning law s _ (hand_in c.args.bytes.now)
@@ -35,5 +34,5 @@ returns-in_err-run-clause-declined g c =
 pub returns-in_err-run-clause-goes_on : goal.returns-in_err-run-clause-goes_on
 returns-in_err-run-clause-goes_on g c =
     let met = g.met.M.Model in
-    let law = lawful g.M.Model.meaning met.within met.together met.five met.six in
+    let law = met.lawful in
     going_on g.M.Model.meaning law c.args.self.now _ (hand_in c.args.bytes.now) (marks_refused c.args.bytes.now c.in_err-run.ensures.exactly)

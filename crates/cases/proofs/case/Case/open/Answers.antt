@@ -1,5 +1,4 @@
 use Rattle.std.proofs.Common.{refl, ap, ◌∙◌}
-use Rattle.ordering.proofs.Laws.{lawful}
 use Rattle.snippet.specs.Keeps.{Sizes}
 use Rattle.snippet.specs.Meant.{program_of}
 use Rattle.judging.proofs.Pairs.{same_sizes}
@@ -16,6 +15,6 @@ pub returns : goal.returns
 returns g c =
     let met = g.met.M.Model in
     let m = c.args.model in
-    let law = lawful g.M.Model.meaning met.within met.together met.five met.six m in
+    let law = met.lawful m in
     let f = following g.M.Model.meaning _ (marks_none c.none.ensures) in
     record { pair = refl; model = refl; follows = f; promise = standing g.M.Model.meaning _ law f }
