@@ -1,7 +1,7 @@
 ghost use Rattle.std.specs.Prelude.{◌≡◌, ◌+◌, ◌<◌, ◌≤◌, [], ◌∷◌, ◌++◌, length, take, drop, if◌then◌else◌, Ok, Err, decimal, nat_lt};
 ghost use Rattle.lines.specs.Lines.{numbers_of, written, read_line, longest, room};
 
-use crate::line::{Line, Report};
+use crate::line::Line;
 use arrayvec::ArrayString;
 use itoa::Buffer;
 use trace::{Cause, Refusal};

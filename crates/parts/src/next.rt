@@ -7,24 +7,15 @@ ghost use Rattle.parts.specs.Left.{left, Takes};
 use crate::cutter::{Parts, Stage};
 use crate::part::Part;
 
-// How many of the bytes that are left the next file has.
-fn part_len(bytes: &[u8]) -> usize
-    ensures { result ≡ part_length bytes.now }
-{
-    match bytes {
-        [_, high, low, ..] => {
-            let whole = 3 + usize::from(u16::from_be_bytes([*high, *low]));
-            whole.min(bytes.len())
-        }
-        _ => bytes.len(),
-    }
-}
-
-// The file that the bytes begin with.
+// The file that the bytes begin with: as many of them as it states, or all where they end before.
 fn first_file(bytes: &[u8]) -> &[u8]
     ensures { result.now ≡ take (part_length bytes.now) bytes.now }
 {
-    &bytes[..part_len(bytes)]
+    let [_, high, low, ..] = bytes else {
+        return bytes;
+    };
+    let whole = 3 + usize::from(u16::from_be_bytes([*high, *low]));
+    &bytes[..whole.min(bytes.len())]
 }
 
 impl<'a> Parts<'a> {
