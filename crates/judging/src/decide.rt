@@ -1,7 +1,9 @@
 ghost use Rattle.std.specs.Prelude.{◌≡◌, take};
 ghost use Rattle.runs.specs.Held.{held};
+ghost use Rattle.snippet.specs.Meant.{sizes_of, program_of};
 ghost use Rattle.pairs.specs.Meant.{meant};
 ghost use Rattle.handins.specs.Meant.{meant as derivation};
+ghost use Rattle.judging.specs.Performed.{PerformAnswer};
 ghost use Rattle.judging.specs.Judged.{Settled, Decided, Judged, OneAnswer};
 ghost use Rattle.judging.specs.Valid.{Exactly};
 
@@ -10,7 +12,34 @@ use handins::{HandIn, read_hand_in};
 use ordering::Model;
 use pairs::Pair;
 use rewrite::{Ranges, Step, Working};
-use trace::{Cause, Refusal};
+use runs::{Registers, run, start_registers};
+use snippet::Snippet;
+use trace::{Cause, Event, Refusal};
+
+impl Performed {
+    // Carries out a run. A run has at most 32 events, one for each statement, so there is room.
+    fn new(snippet: &Snippet, number: u16) -> Result<Performed, Refusal>
+        ensures { PerformAnswer (sizes_of snippet.now) (program_of snippet.now) number result }
+    {
+        let start = start_registers(snippet, number)?;
+        let mut events = [Event::BLANK; 48];
+        let mut end = Registers::new();
+        let ran = run(snippet, number, &mut events, &mut end)?;
+        Ok(Performed {
+            events,
+            length: ran.length,
+            start,
+            end,
+            idle: ran.idle,
+        })
+    }
+
+    fn word(&self) -> &[Event]
+        ensures { result.now ≡ take self.now.length self.now.events }
+    {
+        &self.events[..self.length]
+    }
+}
 
 // Whether the steps lead from one run to the other.
 fn settle<M: Model>(

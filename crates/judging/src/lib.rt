@@ -3,7 +3,6 @@
 #![tactic(auto)]
 
 mod decide;
-mod perform;
 mod performed;
 
 pub use decide::judge;

@@ -24,15 +24,6 @@ impl Registers {
         }
     }
 
-    // One more register.
-    pub(crate) fn push(&mut self, value: u8)
-        requires { length (held self.old) < 4 }
-        ensures { held self.new ≡ held self.old ++ (value ∷ []) }
-    {
-        self.values[usize::from(self.count)] = value;
-        self.count += 1;
-    }
-
     // The values of the registers that there are.
     fn all(&self) -> &[u8]
         ensures { result.now ≡ held self.now }

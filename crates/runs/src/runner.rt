@@ -1,174 +1,167 @@
-ghost use Rattle.std.specs.Prelude.{◌≡◌, ◌<◌, slice_set};
-ghost use Rattle.snippet.specs.Program.{branch, declare};
-ghost use Rattle.snippet.specs.Layout.{block, command_of};
-ghost use Rattle.runs.specs.Held.{held};
-ghost use Rattle.runs.specs.Walk.{Restored, Walks, block_in, of_block, of_command};
+ghost use Rattle.std.specs.Prelude.{◌≡◌, ◌+◌, ◌%◌, ◌^◌, ◌<◌, ◌≤◌, ◌==◌, cond, [], ◌∷◌, length, slice_index, slice_set};
+ghost use Rattle.snippet.specs.Layout.{ending, after};
+ghost use Rattle.runs.specs.Runs.{digits, nonzero, first, others, ran};
+ghost use Rattle.runs.specs.Held.{held, remaining};
+ghost use Rattle.runs.specs.Walk.{Walks};
 
+use crate::choices::Choices;
 use crate::full::Full;
 use crate::machine::Machine;
 use crate::span::Span;
-use snippet::Statement;
+use snippet::{Body, Statement};
 use trace::Event;
 
-// The calls stand below, so that the walk that they use stays private.
-mod calls;
+// What uses these small steps stands below, so that they stay private.
 mod sure;
+mod walk;
 
-pub use calls::{run, start_registers};
 pub use sure::never_idle;
+pub use walk::{run, start_registers};
 
-// Gives a declared register its former value back on every way out.
-struct Declared<'a, 'b> {
-    machine: &'a mut Machine<'b>,
-    register: u8,
-    former: u8,
+impl Choices {
+    fn new(base: u8, count: u8, number: u16) -> Choices
+        requires { (2 ≤ base) × (number < base ^ count) }
+        ensures { remaining result ≡ digits base count number }
+    {
+        Choices {
+            base,
+            left: count,
+            rest: number,
+        }
+    }
+
+    // How many choices are left.
+    #[tactic(auto, using(crate::proofs::Digits::digits_length))]
+    fn left(&self) -> u8
+        ensures { result ≡ length (remaining self.now) }
+    {
+        self.left
+    }
+
+    // Whether a choice that is left is not 0.
+    #[tactic(auto, using(crate::proofs::Digits::nonzero_digits))]
+    fn idle(&self) -> bool
+        ensures { result ≡ nonzero (remaining self.now) }
+    {
+        self.rest != 0
+    }
+
+    // Takes the next choice: 0 where none is left.
+    #[tactic(auto, using(crate::proofs::Digits::digits_next, crate::proofs::Digits::div_below))]
+    fn next(&mut self) -> u8
+        ensures value { result ≡ first (remaining self.old) }
+        ensures rest { remaining self.new ≡ others (remaining self.old) }
+    {
+        if self.left == 0 {
+            return 0;
+        }
+        let base = u16::from(self.base);
+        let rest = self.rest;
+        *self = Choices {
+            base: self.base,
+            left: self.left - 1,
+            rest: rest / base,
+        };
+        (rest % base) as u8
+    }
 }
 
-impl Drop for Declared<'_, '_> {
-    fn drop(self)
-        ensures registers { held self.exit.0.now.registers ≡ slice_set (held self.entry.machine.now.registers) self.entry.register self.entry.former }
-        ensures body { self.exit.0.now.body ≡ self.entry.machine.now.body }
-        ensures choices { self.exit.0.now.choices ≡ self.entry.machine.now.choices }
-        ensures events { self.exit.0.now.events ≡ self.entry.machine.now.events }
-        ensures written { self.exit.0.now.written ≡ self.entry.machine.now.written }
+impl Span {
+    fn whole(body: &Body) -> Span
+        ensures at { result.at ≡ 0 }
+        ensures to { result.to ≡ body.now.len }
     {
-        let Declared {
-            machine,
-            register,
-            former,
-        } = self;
-        machine.registers.put(register, former);
+        Span {
+            at: 0,
+            to: body.len,
+        }
+    }
+
+    // The places past the first.
+    fn rest(self) -> Span
+        requires { self.at < self.to }
+        ensures at { result.at ≡ self.at + 1 }
+        ensures to { result.to ≡ self.to }
+    {
+        Span {
+            at: self.at + 1,
+            to: self.to,
+        }
+    }
+
+    // The first `count` places, or all if they are fewer, and the others.
+    fn split(self, count: u8) -> (Span, Span)
+        ensures at { result.0.at ≡ self.at }
+        ensures middle { (result.0.to ≡ ending self.at count self.to) × (result.1.at ≡ result.0.to) }
+        ensures to { result.1.to ≡ self.to }
+    {
+        let middle = self.at + usize::from(count).min(self.to - self.at);
+        let first = Span {
+            at: self.at,
+            to: middle,
+        };
+        let others = Span {
+            at: middle,
+            to: self.to,
+        };
+        (first, others)
+    }
+
+    // The places past the first statement and its blocks.
+    fn past(self, statement: Statement) -> Span
+        requires { self.at < self.to }
+        ensures at { result.at ≡ after statement self.at self.to }
+        ensures fewer { self.at < result.at }
+        ensures to { result.to ≡ self.to }
+    {
+        let rest = self.rest();
+        match statement {
+            Statement::If { nonzero, zero, .. } => rest.split(nonzero).1.split(zero).1,
+            Statement::Declare { inner, .. } => rest.split(inner).1,
+            _ => rest,
+        }
     }
 }
 
 impl Machine<'_> {
-    // Carries out the statements of a span.
-    #[cycle(walk)]
-    #[tactic(auto, using(snippet::proofs::Blocks::block_end))]
-    fn run_block(&mut self, span: Span) -> Result<(), Full>
-        ensures { Walks (of_block self.old (block_in self.old.body.now span)) self.old self.new result }
+    // Writes the next event, if there is a place for it.
+    fn emit(&mut self, event: Event) -> Result<(), Full>
+        ensures { Walks (ran (event ∷ []) (held self.old.registers) (remaining self.old.choices)) self.old self.new result }
     {
-        if span.at == span.to {
-            return Ok(());
+        let at = self.written;
+        if at >= self.events.len() {
+            return Err(Full);
         }
-        let statement = self.body.statements[span.at];
-        self.run_statement(statement, span)?;
-        self.run_block(span.past(statement))
-    }
-
-    // Carries out the statement at a span's first place, with its blocks.
-    #[cycle(walk)]
-    fn run_statement(&mut self, statement: Statement, span: Span) -> Result<(), Full>
-        requires { span.at < span.to }
-        ensures { Walks (of_command self.old (command_of (block self.old.body.now.statements) statement span.at span.to)) self.old self.new result }
-    {
-        match statement {
-            Statement::Skip => Ok(()),
-            Statement::Load { register, location } => {
-                let value = self.choices.next();
-                self.emit_found(Event::Load { location, value }, value, register)
-            }
-            Statement::Store { location, register } => {
-                let value = self.registers.get(register);
-                self.emit(Event::Store { location, value })
-            }
-            Statement::Constant { register, value } => {
-                self.registers.put(register, value);
-                Ok(())
-            }
-            Statement::Copy { register, from } => {
-                let value = self.registers.get(from);
-                self.registers.put(register, value);
-                Ok(())
-            }
-            Statement::Sum {
-                register,
-                left,
-                right,
-            } => {
-                let sum = self.sum(left, right);
-                self.registers.put(register, sum);
-                Ok(())
-            }
-            Statement::Equal {
-                register,
-                left,
-                right,
-            } => {
-                let equal = self.registers.get(left) == self.registers.get(right);
-                self.registers.put(register, u8::from(equal));
-                Ok(())
-            }
-            Statement::CompareAndSwap {
-                register,
-                location,
-                compared,
-                new,
-            } => {
-                let found = self.choices.next();
-                let left = self.swapped(found, compared, new);
-                let event = Event::LoadStore {
-                    location,
-                    found,
-                    left,
-                };
-                self.emit_found(event, found, register)
-            }
-            Statement::Fence => self.emit(Event::Fence),
-            Statement::Get { register } => {
-                let value = self.choices.next();
-                self.emit_found(Event::Get { value }, value, register)
-            }
-            Statement::Print { register } => {
-                let value = self.registers.get(register);
-                self.emit(Event::Print { value })
-            }
-            Statement::If {
-                register,
-                nonzero,
-                zero,
-            } => {
-                let (first, others) = span.rest().split(nonzero);
-                let (second, _) = others.split(zero);
-                self.run_branch(register, first, second)
-            }
-            Statement::Declare {
-                register,
-                value,
-                inner,
-            } => {
-                let (block, _) = span.rest().split(inner);
-                self.run_declared(register, value, block)
-            }
-        }
-    }
-
-    // The block of an if that its register picks.
-    #[cycle(walk)]
-    fn run_branch(&mut self, register: u8, nonzero: Span, zero: Span) -> Result<(), Full>
-        ensures { Walks (of_command self.old (branch register (block_in self.old.body.now nonzero) (block_in self.old.body.now zero))) self.old self.new result }
-    {
-        if self.registers.get(register) == 0 {
-            self.run_block(zero)
-        } else {
-            self.run_block(nonzero)
-        }
-    }
-
-    // The block of a declare: the register has its former value again however the block ends.
-    #[cycle(walk)]
-    fn run_declared(&mut self, register: u8, value: u8, span: Span) -> Result<(), Full>
-        ensures restored { Restored register (held self.old.registers) (held self.new.registers) }
-        ensures walks { Walks (of_command self.old (declare register value (block_in self.old.body.now span))) self.old self.new result }
-    {
-        let former = self.registers.get(register);
-        self.registers.put(register, value);
-        let guard = Declared {
-            machine: self,
-            register,
-            former,
-        };
-        guard.machine.run_block(span)?;
+        self.events[at] = event;
+        self.written = at + 1;
         Ok(())
+    }
+
+    // Writes the event of a value that was found, and puts the value into a register.
+    fn emit_found(&mut self, event: Event, value: u8, register: u8) -> Result<(), Full>
+        ensures { Walks (ran (event ∷ []) (slice_set (held self.old.registers) register value) (remaining self.old.choices)) self.old self.new result }
+    {
+        self.emit(event)?;
+        self.registers.put(register, value);
+        Ok(())
+    }
+
+    // The sum of two registers, as a value of the snippet's.
+    fn sum(&self, left: u8, right: u8) -> u8
+        ensures { result ≡ (slice_index (held self.now.registers) left + slice_index (held self.now.registers) right) % self.now.body.now.limits.values }
+    {
+        let total = u16::from(self.registers.get(left)) + u16::from(self.registers.get(right));
+        (total % u16::from(self.body.limits.values)) as u8
+    }
+
+    // What a compare-and-swap leaves where it finds that value.
+    fn swapped(&self, found: u8, compared: u8, new: u8) -> u8
+        ensures { result ≡ cond (found == slice_index (held self.now.registers) compared) (slice_index (held self.now.registers) new) found }
+    {
+        if found == self.registers.get(compared) {
+            self.registers.get(new)
+        } else {
+            found
+        }
     }
 }

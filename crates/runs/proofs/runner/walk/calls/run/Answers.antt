@@ -2,7 +2,7 @@ use Rattle.std.proofs.Common.{rules}
 use Rattle.snippet.specs.Meant.{sizes_of, program_of}
 use Rattle.runs.specs.Runs.{run_of}
 use Rattle.runs.proofs.Exact.{rest_few}
-use Rattle.runs.proofs.runner.calls.run.Goals as goal
+use Rattle.runs.proofs.runner.walk.calls.run.Goals as goal
 
 pub overflow_sub-taken : goal.overflow_sub-taken
 unfolding run_of

@@ -1,4 +1,4 @@
-ghost use Rattle.std.specs.Prelude.{◌≡◌, ◌<◌, ◌≤◌, length, take, drop, OnOk, IfOk, IfErr};
+ghost use Rattle.std.specs.Prelude.{◌≡◌, ◌<◌, ◌≤◌, [], ◌∷◌, ◌++◌, length, take, drop, OnOk, IfOk, IfErr};
 ghost use Rattle.trace.specs.declared.refusal.Cause.TheVariants.{NoSuchRun};
 ghost use Rattle.snippet.specs.Meant.{sizes_of, program_of};
 ghost use Rattle.runs.specs.Runs.{start_of, choices_of, count};
@@ -13,6 +13,17 @@ use crate::registers::Registers;
 use crate::span::Span;
 use snippet::Snippet;
 use trace::{Cause, Event, Refusal};
+
+impl Registers {
+    // One more register.
+    fn push(&mut self, value: u8)
+        requires { length (held self.old) < 4 }
+        ensures { held self.new ≡ held self.old ++ (value ∷ []) }
+    {
+        self.values[usize::from(self.count)] = value;
+        self.count += 1;
+    }
+}
 
 // So many digits into as many registers.
 #[tactic(auto, using(crate::proofs::Taking::take_first, crate::proofs::Taking::drop_first))]

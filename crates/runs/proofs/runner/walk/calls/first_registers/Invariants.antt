@@ -1,6 +1,6 @@
 use Rattle.std.proofs.Common.{◌≡◌, take, drop}
 use Rattle.runs.specs.Held.{held, remaining}
-use Rattle.runs.proofs.runner.calls.first_registers.Given as goal
+use Rattle.runs.proofs.runner.walk.calls.first_registers.Given as goal
 
 abbrev pub invariant-loop-register : goal.invariant-loop-register
 invariant-loop-register l =
