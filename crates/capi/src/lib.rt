@@ -14,7 +14,7 @@ fn fill(out: &mut [u8], lines: &[u8])
 {
     let n = lines.len();
     if n <= out.len() {
-        out[0..n].copy_from_slice(lines);
+        out[..n].copy_from_slice(lines);
     }
 }
 

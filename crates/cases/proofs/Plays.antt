@@ -24,12 +24,12 @@ calls_more calls i d h =
 module _ (sets : ℕ → Behaviours) (words : ℕ → Word → Type 0) where
   -- a case that follows calls keeps the promise for arbitrary sets
   pub promised : {M : Type 0} (meaning : M → Meaning) (c : Case M) (calls : List history.Call) (s : Standing) → Lawful (meaning c.model) → Follows meaning c calls
-      → Verdict c s.lowest → Counted c s.matched s.active → (p : Pair) (x : M) → c.pair ≡ p → c.model ≡ x → Promised sets words (meaning x) (meant p) calls s
+      → Verdict c s.lowest → Counted c s.tally.matched s.tally.active → (p : Pair) (x : M) → c.pair ≡ p → c.model ≡ x → Promised sets words (meaning x) (meant p) calls s
   promised {M} meaning c calls s law f v n p x e q =
       let P = meant c.pair in
       let here : Promised sets words (meaning c.model) P calls s = record {
         verdict = verdict_promise c.live (marking meaning c f) _ (λ all. unobservable law (original_runs c.pair) (replacement_runs c.pair) all P.sizes.values sets words) s.lowest v;
-        count = count_promise c.live (marking meaning c f) s.matched s.active n.0 n.1;
+        count = count_promise c.live (marking meaning c f) s.tally.matched s.tally.active n.0 n.1;
       } in
       subst (λ (y : M). Promised sets words (meaning y) (meant p) calls s) q (subst (λ (y : Pair). Promised sets words (meaning c.model) (meant y) calls s) e here)
 

@@ -20,7 +20,7 @@ module _ (sets : ℕ → Behaviours) (words : ℕ → Word → Type 0) (m : Mean
   -- The whole promise of a standing after some calls. A surrounding may add any of the sets.
   pub record Promised (calls : List history.Call) (s : Standing) : Type 0 where
     pub verdict : VerdictPromise (AddsNothing m P.sizes.values sets words (Behaves P.sizes P.original) (Behaves P.sizes P.replacement)) m P calls s.lowest
-    pub count : CountPromise m P calls s.matched s.active
+    pub count : CountPromise m P calls s.tally.matched s.tally.active
 
   -- The standings before and after, and the answer: the promise holds at the opening, after each call, and at
   -- the end; standings past those are unchanged.

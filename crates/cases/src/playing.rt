@@ -11,13 +11,11 @@ use surroundings::Sets;
 
 fn standing<M: Model>(case: &Case<M>) -> Standing
     ensures verdict { Verdict case.now result.lowest }
-    ensures count { Counted case.now result.matched result.active }
+    ensures count { Counted case.now result.tally.matched result.tally.active }
 {
-    let tally = case.count();
     Standing {
         lowest: case.verdict(),
-        matched: tally.matched,
-        active: tally.active,
+        tally: case.count(),
     }
 }
 

@@ -1,3 +1,5 @@
+use crate::tally::Tally;
+
 /// A call on an open case.
 #[derive(Clone, Copy)]
 pub enum Call<'a> {
@@ -10,6 +12,5 @@ pub enum Call<'a> {
 #[derive(Clone, Copy)]
 pub struct Standing {
     pub lowest: Option<u16>,
-    pub matched: u16,
-    pub active: u16,
+    pub tally: Tally,
 }

@@ -6,5 +6,13 @@ use crate::event::Event;
 pub fn same_word(a: &[Event], b: &[Event]) -> bool
     ensures { MatchBool result (a.now ≡ b.now) (a.now ≢ b.now) }
 {
-    a == b
+    if a.len() != b.len() {
+        return false;
+    }
+    for (i, event) in a.iter().enumerate() {
+        if *event != b[i] {
+            return false;
+        }
+    }
+    true
 }

@@ -9,7 +9,7 @@ ghost use Rattle.pairs.specs.Encoded.{encode_pair};
 ghost use Rattle.handins.specs.Encoded.{encode_hand_in};
 ghost use Rattle.worked.specs.Pairs.{store_back, store_later, store_sooner, load_once, load_back, pair, sized, load_maybe};
 
-use cases::{Call, Standing, play};
+use cases::{Call, Standing, Tally, play};
 use judging::judge;
 use ordering::{Clr, Ibm390, Model, Pinned, Pins, Pso, Sc, Tso};
 use pairs::read_pair;
@@ -189,8 +189,8 @@ impl Sets for Everything {
 
 // A line for the standing after so many calls.
 fn show_standing(rt: &HostRuntime, made: usize, standing: Standing) -> io::Result<()> {
-    let matched = standing.matched;
-    let active = standing.active;
+    let matched = standing.tally.matched;
+    let active = standing.tally.active;
     match standing.lowest {
         None => println!(rt; "after {made} calls: {matched} of {active} matched, sound"),
         Some(run) => println!(rt;
@@ -217,8 +217,10 @@ fn show_played(rt: &HostRuntime) -> io::Result<()> {
     ];
     let mut standings = [Standing {
         lowest: None,
-        matched: 0,
-        active: 0,
+        tally: Tally {
+            matched: 0,
+            active: 0,
+        },
     }; 8];
     play::<Sc, Everything>(pair, Sc, &calls, &mut standings);
     for (made, standing) in standings.iter().enumerate() {
