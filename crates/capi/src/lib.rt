@@ -40,6 +40,7 @@ pub extern "C" fn bankcheck_judge(
             *length = lines.len();
             true
         }
+        // C knows no Result
         Err(_) => false,
     }
 }

@@ -7,6 +7,7 @@ use rewrite::Step;
 pub struct HandIn {
     pub replacement: u16,
     pub original: u16,
+    // an array and how much of it counts: nothing here allocates, and a hand-in is copied
     pub steps: [Step; 64],
     pub count: usize,
     ghost full: { length steps ≡ 64 },

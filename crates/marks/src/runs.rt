@@ -37,6 +37,7 @@ impl Marks {
         ensures { result ≡ count_below (marked self.now) 4096 }
     {
         let words = self.words.as_slice();
+        // a word has at most 64 ones
         words.iter().map(|word| word.count_ones() as u16).sum()
     }
 
@@ -47,6 +48,7 @@ impl Marks {
         for (i, (word, other)) in self.words.iter().zip(&there.words).enumerate() {
             let left = *word & !*other;
             if left != 0 {
+                // both fit: there are 64 words of 64 bits
                 return Some(i as u16 * 64 + left.trailing_zeros() as u16);
             }
         }

@@ -15,7 +15,7 @@ pub enum Removal {
 /// An ordering model. Its meaning is fixed by its value, and asking changes nothing. Each
 /// implementation shows the laws: they are what the soundness of a verdict rests on.
 pub trait Model {
-    /// The number that the report prints.
+    /// The number that the report prints: no enum, since anyone may add a model.
     const NUMBER: u8;
 
     ghost NUMBER: { ℕ };

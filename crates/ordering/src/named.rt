@@ -34,6 +34,9 @@ fn load_after_store_only(removal: Removal, location: u8) -> bool
     }
 }
 
+// Each model gives its own row of the table. What two rows share is a function above; what all share
+// is in the trait.
+
 /// Sequential consistency.
 #[derive(Clone, Copy)]
 pub struct Sc;

@@ -4,6 +4,7 @@ ghost use Rattle.ordering.specs.Pinning.{pinned};
 /// A list of pinned locations: bit L is set where location L is pinned.
 #[derive(Clone, Copy)]
 pub struct Pins {
+    // a bit for each location, which is the form of the list
     pub mask: u8,
 }
 

@@ -10,6 +10,7 @@ pub(crate) const MOST: usize = 48;
 /// The word that the steps work on: at most 48 events.
 #[derive(Clone, Copy)]
 pub struct Working {
+    // an array and how much of it counts: nothing here allocates, and a word is copied
     pub(crate) events: [Event; MOST],
     pub(crate) len: usize,
     ghost room: { len ≤ MOST },
@@ -18,6 +19,7 @@ pub struct Working {
 /// A step as it is written: a rule's number, a place, and for rule 7 a location and a value.
 #[derive(Clone, Copy)]
 pub struct Step {
+    // a number as it is written, since one that names no rule is refused only in its turn
     pub rule: u8,
     pub place: u8,
     pub location: u8,
@@ -49,7 +51,7 @@ pub enum Question {
     MaySwap(Access, Access),
     Forwards(u8),
     Permits(Removal, u8),
-    // rules 3, 4 and 7 are open on every model
+    // rules 3, 4 and 7 are open on every model; that a rule does not fit is no question at all
     Nothing,
 }
 

@@ -3,6 +3,7 @@ ghost use Rattle.std.specs.Prelude.{◌≡◌, ◌≤◌, length};
 /// The values of a run's registers.
 #[derive(Clone, Copy)]
 pub struct Registers {
+    // an array and how much of it counts: nothing here allocates, and registers are copied
     pub(crate) values: [u8; 4],
     // how many registers there are: the values past them mean nothing
     pub(crate) count: u8,
@@ -47,7 +48,8 @@ impl Registers {
         }
     }
 
-    /// Whether there are as many registers in both, with the same values.
+    /// Whether there are as many registers in both, with the same values. It says that they are the same,
+    /// where `==` would say no more than what it answers.
     pub fn same(&self, other: &Registers) -> bool
         ensures { MatchBool result (held self.now ≡ held other.now) (held self.now ≢ held other.now) }
     {

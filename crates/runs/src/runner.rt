@@ -62,6 +62,7 @@ impl Choices {
             left: self.left - 1,
             rest: rest / base,
         };
+        // it fits, since it is below the base
         (rest % base) as u8
     }
 }
@@ -151,6 +152,7 @@ impl Machine<'_> {
         ensures { result ≡ (slice_index (held self.now.registers) left + slice_index (held self.now.registers) right) % self.now.body.now.limits.values }
     {
         let total = u16::from(self.registers.get(left)) + u16::from(self.registers.get(right));
+        // it fits, since it is below the number of values
         (total % u16::from(self.body.limits.values)) as u8
     }
 

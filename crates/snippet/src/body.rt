@@ -10,6 +10,7 @@ use crate::statement::Statement;
 #[derive(Clone, Copy)]
 pub struct Body {
     pub limits: Limits,
+    // an array and how much of it counts, in the place of boxes: nothing here allocates
     pub statements: [Statement; 32],
     pub len: usize,
     ghost full: { length statements ≡ 32 },

@@ -35,6 +35,7 @@ struct Reader<'a> {
 /// The statements that were read, each before those of its blocks.
 #[derive(Clone, Copy)]
 struct Laid {
+    // as a body keeps them
     statements: [Statement; 32],
     len: usize,
     ghost full: { length statements ≡ 32 },
@@ -108,6 +109,7 @@ impl Reader<'_> {
             locations,
         } = self.source.limits;
         let place = self.at;
+        // the numbers of the format: this match is their table
         match self.number() {
             0 => Ok(Statement::Skip),
             1 => Ok(Statement::Load {

@@ -27,6 +27,7 @@ impl Body {
         ensures few { result ≤ 32 }
     {
         let statements = &self.statements[..self.len];
+        // it fits, since there are at most 32
         statements.iter().filter(|s| s.takes_choice()).count() as u8
     }
 }

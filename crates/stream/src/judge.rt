@@ -58,6 +58,7 @@ fn judge_with<M: Model + Drop>(
     Ok(out)
 }
 
+// Each model is a type of its own, with its number as a constant, so the name picks the function.
 fn judge_pair(
     heap: Global,
     model: Named,

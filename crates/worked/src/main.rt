@@ -20,7 +20,8 @@ use surroundings::Sets;
 use trace::{Event, Refusal};
 
 // Each pair file: the version and the length; how many values, registers and locations; the original
-// and the replacement behind their lengths.
+// and the replacement behind their lengths. They are functions, since a constant has no
+// contract that says whose file it is.
 
 // "r0 := A; if r0 {} else {A := r0}" to "r0 := A".
 fn store_back() -> [u8; 25]

@@ -15,6 +15,7 @@ impl Reader<'_> {
     fn block(mut self, out: &mut Laid) -> Result<(), Refusal>
         ensures { ReadsBlock self.entry out.old result out.new }
     {
+        // a statement takes as many bytes as it takes, so no iterator knows where the next one is
         while self.at < self.source.end {
             let place = out.len;
             if place >= 32 {
@@ -35,6 +36,7 @@ impl Reader<'_> {
         ensures ahead { OnOk result (self.old.at < self.new.at) }
         ensures source { self.new.source ≡ self.old.source }
     {
+        // the two numbers of the format that have blocks
         match self.source.bytes[self.at] {
             11 => self.branch(out),
             12 => self.declared(out),
@@ -97,6 +99,7 @@ impl Reader<'_> {
         let before = out.len;
         inner.block(out)?;
         self.at = span.end;
+        // it fits, since there are at most 32
         Ok((out.len - before) as u8)
     }
 }
