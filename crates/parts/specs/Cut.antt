@@ -16,10 +16,6 @@ stated bs = 3 + slice_index bs 1 * 256 + slice_index bs 2
 abbrev pub part_length : List ℕ → ℕ
 part_length bs = min (stated bs) (length bs)
 
--- Where the part that starts at a place of the stream ends.
-abbrev pub part_end : List ℕ → ℕ → ℕ
-part_end stream at = at + part_length (drop at stream)
-
 -- The hand-ins in the bytes from a place of the stream on. Each has a byte at least, so the
 -- number of bytes bounds the recursion.
 unfoldable pub cut_within : ℕ → List ℕ → ℕ → List Piece

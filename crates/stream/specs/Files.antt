@@ -12,4 +12,4 @@ files h = map bytes_of (left h.parts)
 -- The first of them is taken, if there is one.
 abbrev pub Takes : HandIns → Option (Bor (List ℕ)) → HandIns → Type 0
 Takes before (Some bytes) after = files before ≡ bytes.now ∷ files after
-Takes before None after = files before ≡ []
+Takes before None after = (files before ≡ []) × (files after ≡ [])

@@ -2,6 +2,12 @@ ghost use Rattle.stream.specs.Models.{NamedBy};
 
 use trace::{Cause, Refusal};
 
+/// Why a stream cannot be judged.
+pub(crate) const UNFIT: Refusal = Refusal {
+    cause: Cause::Stream,
+    place: 0,
+};
+
 /// The models that a stream can name.
 #[derive(Clone, Copy)]
 pub(crate) enum Named {
@@ -25,10 +31,7 @@ impl TryFrom<u8> for Named {
             3 => Ok(Named::Tso),
             4 => Ok(Named::Pso),
             5 => Ok(Named::Clr),
-            _ => Err(Refusal {
-                cause: Cause::Stream,
-                place: 0,
-            }),
+            _ => Err(UNFIT),
         }
     }
 }

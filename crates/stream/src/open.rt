@@ -1,18 +1,12 @@
 ghost use Rattle.stream.specs.Opened.{OpenedAs};
 
-use crate::named::Named;
+use crate::named::{Named, UNFIT};
 use crate::opened::{HandIns, Opened};
 use parts::{Part, Parts};
-use trace::{Cause, Refusal};
+use trace::Refusal;
 
 /// The most bytes that a stream can have.
 const LONGEST: usize = 32768;
-
-/// Why a stream cannot be judged.
-const UNFIT: Refusal = Refusal {
-    cause: Cause::Stream,
-    place: 0,
-};
 
 impl<'a> Opened<'a> {
     // Takes the first two parts of a stream.

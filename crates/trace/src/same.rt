@@ -9,6 +9,7 @@ pub fn same_word(a: &[Event], b: &[Event]) -> bool
     if a.len() != b.len() {
         return false;
     }
+    // event by event, with its place, which is the form that docs/DECISIONS.md gives it
     for (i, event) in a.iter().enumerate() {
         if *event != b[i] {
             return false;

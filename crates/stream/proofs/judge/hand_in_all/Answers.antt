@@ -20,5 +20,5 @@ loop-bytes-preserved g c =
 pub returns : goal.returns
 returns g c =
     let (taken, whole, handed) = c.loop-bytes.invariant in
-    let all = ap files (sym c.into_iter-bytes-iterator.ensures.into_iter_gives) ∙ whole ∙ ap (λ xs. taken ++ xs) c.in-None.ensures.steps ∙ append-nil taken in
+    let all = ap files (sym c.into_iter-bytes-iterator.ensures.into_iter_gives) ∙ whole ∙ ap (λ xs. taken ++ xs) c.in-None.ensures.steps.0 ∙ append-nil taken in
     subst (λ (x : List (List ℕ)). Handed g.M.Model.meaning c.args.case.now c.loop-bytes.case x (vec_items c.loop-bytes.out)) (sym all) handed
