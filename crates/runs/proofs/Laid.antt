@@ -1,5 +1,5 @@
 -- Words laid over the caller's events.
-use Rattle.std.proofs.Common.{◌≡◌, ℕ, suc, ◌+◌, ◌<◌, ◌≤◌, List, [], ◌∷◌, ◌++◌, length, get_or, take, drop, Ok, Err, Result, sym, refl, ap, ◌∙◌, append-nil, arith, length-append, take-append-drop, length-take}
+use Rattle.std.proofs.Common.{◌≡◌, ℕ, suc, ◌+◌, ◌<◌, ◌≤◌, List, [], ◌∷◌, ◌++◌, length, slice_set, get_or, take, drop, Ok, Err, Result, sym, refl, ap, ◌∙◌, append-nil, arith, length-append, take-append-drop, length-take}
 use lib.Seq.{sets, set_out, length-sets, drop-length}
 use Rattle.trace.specs.Words.{Word}
 use Rattle.trace.proofs.Lists.{sets-append, sets_start}
@@ -31,6 +31,25 @@ ends_on one two room at (Ok u) rs cs n h =
     let l = length-append one.word two.word in
     record { fits = omega (arith, h.fits); written = omega (arith, h.written); registers = h.registers; rest = h.rest }
 ends_on one two room at (Err e) rs cs n h = omega (arith, length-append one.word two.word)
+
+-- A register is set where a run has ended.
+back : (run : Run) (room at register value : ℕ) (o : Result (Unit {0}) Full) (rs cs : List ℕ) (n : ℕ)
+    → Ends o run room at rs cs n → Ends o (ran run.word (slice_set run.registers register value) run.rest) room at (slice_set rs register value) cs n
+back run room at register value (Ok u) rs cs n h =
+    record { fits = h.fits; written = h.written; registers = ap (λ (x : List ℕ). slice_set x register value) h.registers; rest = h.rest }
+back run room at register value (Err e) rs cs n h = h
+
+pub put_back : (run : Run) (m k n p : Machine) (register value : ℕ) (o : Result (Unit {0}) Full)
+    → Walks run k n o → k.body ≡ m.body → k.events ≡ m.events → k.written ≡ m.written
+    → held p.registers ≡ slice_set (held n.registers) register value → p.body ≡ n.body → p.events ≡ n.events → p.choices ≡ n.choices → p.written ≡ n.written
+    → Walks (ran run.word (slice_set run.registers register value) run.rest) m p o
+put_back run m k n p register value o w a b c d e f g h =
+    record {
+      body = e ∙ w.body ∙ a;
+      same = rw (f, w.same, b) refl;
+      events = rw (f, ← b, ← c) w.events;
+      ends = rw (d, g, h, ← b, ← c) (back run _ _ register value o _ _ _ w.ends);
+    }
 
 -- A machine `m` stands at the first statement of a block.
 module _ (m : Machine) (span : Span) (h : span.at < span.to) where

@@ -1,5 +1,5 @@
 /// What a run that was carried out says of itself.
-#[derive(Clone, Copy)]
+#[derive(Clone, Copy, Debug, PartialEq, Eq)]
 pub struct Ran {
     // of its word
     pub length: usize,

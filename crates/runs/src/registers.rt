@@ -48,8 +48,8 @@ impl Registers {
         }
     }
 
-    /// Whether there are as many registers in both, with the same values. It says that they are the same,
-    /// where `==` would say no more than what it answers.
+    /// Whether there are as many registers in both, with the same values. A method, since registers past the
+    /// count may differ, and it promises that both are the same.
     pub fn same(&self, other: &Registers) -> bool
         ensures { MatchBool result (held self.now ≡ held other.now) (held self.now ≢ held other.now) }
     {

@@ -10,7 +10,7 @@ use trace::{Cause, Refusal};
 
 impl Statement {
     /// Whether the statement itself takes a choice.
-    fn takes_choice(&self) -> bool
+    pub fn takes_choice(&self) -> bool
         ensures { result ≡ (takes self.now == 1) }
     {
         matches!(

@@ -1,5 +1,5 @@
 /// A statement. The statements of its blocks follow it, as many as it says.
-#[derive(Clone, Copy)]
+#[derive(Clone, Copy, Debug, PartialEq, Eq)]
 pub enum Statement {
     Skip,
     Load {

@@ -30,9 +30,8 @@ fn sure_statement(body: &Body, statement: Statement, span: Span) -> u8
     ensures few { result ≤ after statement span.at span.to - span.at }
 {
     match statement {
-        Statement::Load { .. } | Statement::CompareAndSwap { .. } | Statement::Get { .. } => 1,
         Statement::Declare { inner, .. } => sure_block(body, span.rest().split(inner).0),
-        _ => 0,
+        _ => u8::from(statement.takes_choice()),
     }
 }
 

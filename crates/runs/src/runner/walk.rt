@@ -155,6 +155,7 @@ impl Machine<'_> {
 
     // The block of a declare: the register has its former value again however the block ends.
     #[cycle(walk)]
+    #[tactic(auto, using(crate::proofs::Laid::put_back))]
     fn run_declared(&mut self, register: u8, value: u8, span: Span) -> Result<(), Full>
         ensures restored { Restored register (held self.old.registers) (held self.new.registers) }
         ensures walks { Walks (of_command self.old (declare register value (block_in self.old.body.now span))) self.old self.new result }
@@ -166,7 +167,6 @@ impl Machine<'_> {
             register,
             former,
         };
-        guard.machine.run_block(span)?;
-        Ok(())
+        guard.machine.run_block(span)
     }
 }

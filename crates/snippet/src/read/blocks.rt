@@ -52,7 +52,7 @@ impl Reader<'_> {
         ensures ahead { OnOk result (self.old.at < self.new.at) }
         ensures source { self.new.source ≡ self.old.source }
     {
-        // The number is known.
+        // `statement` has looked at the number.
         self.number();
         Ok(Statement::If {
             register: self.operand(self.source.limits.registers)?,
@@ -69,7 +69,7 @@ impl Reader<'_> {
         ensures ahead { OnOk result (self.old.at < self.new.at) }
         ensures source { self.new.source ≡ self.old.source }
     {
-        // The number is known.
+        // `statement` has looked at the number.
         self.number();
         Ok(Statement::Declare {
             register: self.operand(self.source.limits.registers)?,

@@ -42,7 +42,7 @@ fn first_registers(choices: &mut Choices, count: u8) -> Registers
 
 // The start registers of a run, and its choices. Declined if there is no such run.
 #[tactic(auto, using(crate::proofs::Bounds::count_is, crate::proofs::Digits::digits_length, crate::proofs::Digits::lower_digits, crate::proofs::Digits::upper_digits), unfolding(crate::specs::Runs::start_of, crate::specs::Runs::choices_of))]
-fn opened(snippet: &Snippet, number: u16) -> Result<(Registers, Choices), Refusal>
+fn begun(snippet: &Snippet, number: u16) -> Result<(Registers, Choices), Refusal>
     ensures there { OnOk result (number < count (sizes_of snippet.now) (program_of snippet.now)) }
     ensures start { IfOk result (λ o. held o.0 ≡ start_of (sizes_of snippet.now) number) }
     ensures choices { IfOk result (λ o. remaining o.1 ≡ choices_of (sizes_of snippet.now) (program_of snippet.now) number) }
@@ -64,7 +64,7 @@ fn opened(snippet: &Snippet, number: u16) -> Result<(Registers, Choices), Refusa
 pub fn start_registers(snippet: &Snippet, number: u16) -> Result<Registers, Refusal>
     ensures { StartAnswer (sizes_of snippet.now) (program_of snippet.now) number result }
 {
-    let (registers, _) = opened(snippet, number)?;
+    let (registers, _) = begun(snippet, number)?;
     Ok(registers)
 }
 
@@ -81,7 +81,7 @@ pub fn run(
     ensures answer { RunAnswer (sizes_of snippet.now) (program_of snippet.now) number registers.old registers.new events.old events.new result }
     ensures exact { BehavioursAreRuns (sizes_of snippet.now) (program_of snippet.now) }
 {
-    let (start, choices) = opened(snippet, number)?;
+    let (start, choices) = begun(snippet, number)?;
     let mut machine = Machine {
         body: &snippet.body,
         choices,

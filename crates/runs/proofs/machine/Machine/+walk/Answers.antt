@@ -1,4 +1,4 @@
-use Rattle.std.proofs.Common.{rules, arith}
+use Rattle.std.proofs.Common.{arith}
 use Rattle.std.proofs.lemmas.Result.{err_from_is_err_and}
 use Rattle.runs.proofs.Laid.{stopped, carried}
 use Rattle.runs.proofs.machine.Machine.+walk.Goals as goal
@@ -12,12 +12,3 @@ pub run_block-returns : goal.run_block-returns
 run_block-returns t c =
     carried c.args.self.now c.args.span (omega (arith, c.args.span.ordered)) c.run_statement.new.self c.run_block.new.self c.past.result c.run_block.result
     c.in_ok-run_statement.ensures c.past.ensures.at c.past.ensures.to c.run_block.ensures
-
-pub run_declared-returns-clause-walks : goal.run_declared-returns-clause-walks
-run_declared-returns-clause-walks t c =
-    record {
-      body = search rules;
-      same = search rules;
-      events = search rules;
-      ends = record { fits = search rules; written = search rules; registers = search rules; rest = search rules };
-    }
