@@ -129,7 +129,7 @@ impl OrderingModel for Pso {
     ghost lawful = { Prim.search rules };
 
     fn may_swap(&self, first: Access, second: Access) -> bool {
-        matches!(first.kind, Kind::Store) && are_apart(first, second)
+        first.kind == Kind::Store && are_apart(first, second)
     }
 
     fn forwards_at(&self, location: u8) -> bool {
