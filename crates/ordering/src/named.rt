@@ -2,6 +2,7 @@ ghost use Rattle.std.specs.Prelude.{◌≡◌, ◌&&◌};
 ghost use Rattle.ordering.specs.Table.{sc, ibm390, tso, pso, clr, every, both, apart, tso_swaps, six_only};
 ghost use Rattle.std.proofs.Common.{rules};
 
+// the language has a trait `Model` too, `std::marker::Model`: an impl has to say which it is of
 use crate::model::{Model as OrderingModel, Removal};
 use trace::{Access, Kind};
 

@@ -118,6 +118,7 @@ impl Working {
     }
 
     /// Whether this is the given word.
+    // a method and not `==`, since it compares with a slice, and promises that both are the same word
     pub fn is(&self, other: &[Event]) -> bool
         ensures { MatchBool result (word self.now ≡ other.now) (word self.now ≡ other.now → ⊥) }
     {
