@@ -4,7 +4,7 @@ ghost use Rattle.ordering.specs.Meaning.{Meaning, Lawful};
 use trace::Access;
 
 /// What an optimiser may remove where a model permits it.
-#[derive(Clone, Copy)]
+#[derive(Clone, Copy, Debug, PartialEq, Eq)]
 pub enum Removal {
     // rule 5: a store of the value that the load before it found
     StoreAfterLoad,

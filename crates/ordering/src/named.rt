@@ -2,6 +2,7 @@ ghost use Rattle.std.specs.Prelude.{◌≡◌, ◌&&◌};
 ghost use Rattle.ordering.specs.Table.{sc, ibm390, tso, pso, clr, every, both, apart, tso_swaps, six_only};
 ghost use Rattle.std.proofs.Common.{rules};
 
+// the language has a trait `Model` too, `std::marker::Model`: an impl has to say which it is of
 use crate::model::{Model as OrderingModel, Removal};
 use trace::{Access, Kind};
 
@@ -129,7 +130,7 @@ impl OrderingModel for Pso {
     ghost lawful = { Prim.search rules };
 
     fn may_swap(&self, first: Access, second: Access) -> bool {
-        matches!(first.kind, Kind::Store) && are_apart(first, second)
+        first.kind == Kind::Store && are_apart(first, second)
     }
 
     fn forwards_at(&self, location: u8) -> bool {

@@ -1,6 +1,7 @@
 ghost use Rattle.ordering.specs.Pinning.{pinning};
 ghost use Rattle.ordering.specs.PinnedLaws.{pinned_lawful};
 
+// the language has a trait `Model` too, `std::marker::Model`: an impl has to say which it is of
 use crate::model::{Model as OrderingModel, Removal};
 use crate::pins::Pins;
 use trace::Access;

@@ -1,10 +1,25 @@
-ghost use Rattle.std.specs.Prelude.{◌≡◌, ok_or};
+ghost use Rattle.std.specs.Prelude.{◌≡◌, ok_or, slice_index};
 ghost use Rattle.rewrite.specs.declared.working.Denied.TheVariants.{Misfit};
 ghost use Rattle.rewrite.specs.Refused.{cause_of, refusal_of};
 ghost use Rattle.rewrite.specs.Steps.{rule_of};
 
-use crate::working::{Denied, Rule, Stopped};
+use crate::working::{Denied, Rule, Step, Stopped};
 use trace::{Cause, Refusal};
+
+/// The four bytes of a step, in the order of its fields.
+impl From<[u8; 4]> for Step {
+    ghost from_gives = { λ bytes step. step ≡ record { rule = slice_index bytes 0; place = slice_index bytes 1; location = slice_index bytes 2; value = slice_index bytes 3 } };
+
+    fn from(bytes: [u8; 4]) -> Step {
+        let [rule, place, location, value] = bytes;
+        Step {
+            rule,
+            place,
+            location,
+            value,
+        }
+    }
+}
 
 /// The rule of a number from 1 to 7. A step of any other number does not fit.
 impl TryFrom<u8> for Rule {

@@ -17,7 +17,7 @@ pub struct Working {
 }
 
 /// A step as it is written: a rule's number, a place, and for rule 7 a location and a value.
-#[derive(Clone, Copy)]
+#[derive(Clone, Copy, Debug, PartialEq, Eq)]
 pub struct Step {
     // a number as it is written, since one that names no rule is refused only in its turn
     pub rule: u8,
@@ -27,14 +27,14 @@ pub struct Step {
 }
 
 /// What a program has: values below `values`, and locations below `locations`.
-#[derive(Clone, Copy)]
+#[derive(Clone, Copy, Debug, PartialEq, Eq)]
 pub struct Ranges {
     pub values: u8,
     pub locations: u8,
 }
 
 /// The rules 1 to 7, in this order.
-#[derive(Clone, Copy)]
+#[derive(Clone, Copy, Debug, PartialEq, Eq)]
 pub enum Rule {
     Swap,
     Forward,
@@ -46,7 +46,7 @@ pub enum Rule {
 }
 
 /// What a rule asks of the model for the events that it fits.
-#[derive(Clone, Copy)]
+#[derive(Clone, Copy, Debug, PartialEq, Eq)]
 pub enum Question {
     MaySwap(Access, Access),
     Forwards(u8),
@@ -56,7 +56,7 @@ pub enum Question {
 }
 
 /// Why a step is denied.
-#[derive(Clone, Copy)]
+#[derive(Clone, Copy, Debug, PartialEq, Eq)]
 pub enum Denied {
     // 13: it does not fit the word
     Misfit,
@@ -67,7 +67,7 @@ pub enum Denied {
 }
 
 /// The first step that is denied, counted from 0.
-#[derive(Clone, Copy)]
+#[derive(Clone, Copy, Debug, PartialEq, Eq)]
 pub struct Stopped {
     pub step: usize,
     pub why: Denied,

@@ -54,14 +54,12 @@ impl Working {
         requires pairs { rule ≢ NewLoad }
         ensures { (v l : ℕ) → Applied (M.meaning model.now) v l step (word self.old) result (word self.new) }
     {
-        let p = step.place as usize;
+        let p = usize::from(step.place);
         if step.location != 0 || step.value != 0 || p + 1 >= self.len {
             return Err(Denied::Misfit);
         }
         let (e, f) = (self.events[p], self.events[p + 1]);
-        let Some(question) = fits(rule, e, f) else {
-            return Err(Denied::Misfit);
-        };
+        let question = fits(rule, e, f).ok_or(Denied::Misfit)?;
         if !ask(model, question) {
             return Err(Denied::Forbidden);
         }
@@ -74,7 +72,7 @@ impl Working {
         requires { rule_of step.rule ≡ Some NewLoad }
         ensures { (m : Meaning) → Applied m ranges.values ranges.locations step (word self.old) result (word self.new) }
     {
-        let p = step.place as usize;
+        let p = usize::from(step.place);
         if step.location >= ranges.locations || step.value >= ranges.values || p > self.len {
             return Err(Denied::Misfit);
         }
@@ -120,6 +118,7 @@ impl Working {
     }
 
     /// Whether this is the given word.
+    // a method and not `==`, since it compares with a slice, and promises that both are the same word
     pub fn is(&self, other: &[Event]) -> bool
         ensures { MatchBool result (word self.now ≡ other.now) (word self.now ≡ other.now → ⊥) }
     {
