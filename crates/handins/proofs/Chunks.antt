@@ -1,24 +1,27 @@
--- Four bytes at the front of what is left are the next step.
-use Rattle.std.proofs.Common.{◌≡◌, ℕ, zero, suc, ◌+◌, ◌-◌, ◌*◌, ◌/◌, ◌%◌, true, Ok, ◌<◌, ◌≤◌, List, [], ◌∷◌, ◌++◌, length, get_or, take, drop, set, refl, sym, ap, ◌∙◌, arith, length-append, length-drop, get_or-drop, add-zero}
+-- The steps of a hand-in, read from chunks of four bytes.
+use Rattle.std.proofs.Common.{◌≡◌, ℕ, zero, suc, ◌+◌, ◌-◌, ◌*◌, ◌/◌, ◌%◌, true, Ok, ◌<◌, ◌≤◌, List, [], ◌∷◌, ◌++◌, length, get_or, take, drop, set, refl, sym, ap, ◌∙◌, arith, length-drop, get_or-drop, add-zero}
 use Rattle.std.proofs.lemmas.Bool.{and_from, le-leb, eq-eqb}
-use Rattle.std.proofs.lemmas.List.{get_or_append_left, take_more_set, drop-drop, drop_at}
+use Rattle.std.specs.Simd.{first_chunks}
+use Rattle.std.proofs.lemmas.List.{take_more_set, drop-drop, get_or-take}
 use Rattle.rewrite.specs.declared.working.Step.{Step}
 use Rattle.pairs.specs.File.{header_at}
 use Rattle.handins.specs.File.{step_at, steps_from, right_length, derivation_at}
 use Rattle.handins.proofs.Laws.{steps_more}
 
-module _ (bs chunk rest : List ℕ) (k : ℕ) (front : drop k bs ≡ chunk ++ rest) (four : length chunk ≡ 4) where
-  byte : (j : ℕ) → j < 4 → get_or chunk j 0 ≡ get_or bs (k + j) 0
-  byte j h = sym (get_or_append_left chunk rest 0 j (omega arith)) ∙ ap (λ (w : List ℕ). get_or w j 0) (sym front) ∙ get_or-drop k bs j 0
+-- the first chunks of four bytes, by their places
+chunk_at : (n i : ℕ) (bs : List ℕ) → i < n → get_or (first_chunks 4 n bs) i [] ≡ take 4 (drop (4 * i) bs)
+chunk_at zero i bs h = absurd (omega arith)
+chunk_at (suc n) zero bs h = refl
+chunk_at (suc n) (suc i) bs h =
+    chunk_at n i (drop 4 bs) (omega arith) ∙ ap (take 4) (drop-drop (4 * i) 4 bs ∙ ap (λ (k : ℕ). drop k bs) {x = 4 + 4 * i} {y = 4 * suc i} (omega arith))
 
-  pub chunk_step : step_at chunk 0 ≡ step_at bs k
-  chunk_step = rw (byte 0 (omega arith), byte 1 (omega arith), byte 2 (omega arith), byte 3 (omega arith), add-zero k) refl
+module _ (bs : List ℕ) (chunks : List (List ℕ)) (n i : ℕ) (front : chunks ≡ first_chunks 4 n bs) (h : i < n) where
+  byte : (j : ℕ) → j < 4 → get_or (get_or chunks i []) j 0 ≡ get_or bs (4 * i + j) 0
+  byte j k = ap (λ (cs : List (List ℕ)). get_or (get_or cs i []) j 0) front ∙ ap (λ (c : List ℕ). get_or c j 0) (chunk_at n i bs h) ∙ get_or-take 4 (drop (4 * i) bs) j 0 k ∙ get_or-drop (4 * i) bs j 0
 
-  pub rest_left : rest ≡ drop (k + 4) bs
-  rest_left = sym (drop_at chunk rest 4 four) ∙ ap (drop 4) (sym front) ∙ drop-drop 4 k bs
-
-  pub room : k + 4 ≤ length bs
-  room = omega (arith, ap length front, length-append chunk rest, length-drop k bs)
+  -- the step that such a chunk is stands at its place
+  pub chunk_step : (s : Step) → s ≡ record { rule = get_or (get_or chunks i []) 0 0; place = get_or (get_or chunks i []) 1 0; location = get_or (get_or chunks i []) 2 0; value = get_or (get_or chunks i []) 3 0 } → s ≡ step_at bs (4 * i)
+  chunk_step s e = e ∙ rw (byte 0 (omega arith), byte 1 (omega arith), byte 2 (omega arith), byte 3 (omega arith), add-zero (4 * i)) refl
 
 -- one step more is written
 pub step_written : (bs : List ℕ) (steps : List Step) (i : ℕ) (s : Step) → i < length steps → take i steps ≡ steps_from bs 0 i → s ≡ step_at bs (4 * i) → take (i + 1) (set steps i s) ≡ steps_from bs 0 (i + 1)

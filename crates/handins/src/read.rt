@@ -8,19 +8,6 @@ use pairs::check_header;
 use rewrite::Step;
 use trace::{Cause, Refusal};
 
-// The step that four bytes stand for.
-fn step_of(bytes: &[u8]) -> Step
-    requires { 4 ≤ length bytes.now }
-    ensures { result ≡ step_at bytes.now 0 }
-{
-    Step {
-        rule: bytes[0],
-        place: bytes[1],
-        location: bytes[2],
-        value: bytes[3],
-    }
-}
-
 // The steps that the bytes stand for, four bytes each.
 fn read_steps(bytes: &[u8]) -> [Step; 64]
     requires few { length bytes.now ≤ 256 }
@@ -33,8 +20,8 @@ fn read_steps(bytes: &[u8]) -> [Step; 64]
         location: 0,
         value: 0,
     }; 64];
-    for (i, chunk) in bytes.chunks_exact(4).enumerate() {
-        steps[i] = step_of(chunk);
+    for (i, chunk) in bytes.as_chunks::<4>().0.iter().enumerate() {
+        steps[i] = Step::from(*chunk);
     }
     steps
 }

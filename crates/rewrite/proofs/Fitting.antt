@@ -99,24 +99,24 @@ fits_one {s = s} {w} {a} {b} {q} {q'} F G =
     let o = turns_one F.t G.t F.turns T h in
     (F.to ∙ ap₂ (λ (x y : Word). x ++ y) k o.0 ∙ sym G.to, o.1)
 
-pub word_long : (W : Working) → length W.events ≡ 48 → length (word W) ≡ W.len
-word_long W h = length-take-le W.len W.events (omega (arith, W.room))
+pub word_long : (W : Working) → length (word W) ≡ W.len
+word_long W = length-take-le W.len W.events (omega (arith, W.room, W.ok))
 
 pub word_short : (W : Working) → length (word W) ≤ 48
-word_short W = omega (arith, W.room, length-take W.len W.events)
+word_short W = omega (arith, W.ok, length-take W.len W.events)
 
 -- an event of the word, as the code reads it
 pub word_at : (W : Working) (i : ℕ) (d : Event) → i < W.len → get_or W.events i d ≡ get_or (word W) i d
 word_at W i d h = sym (get_or-take W.len W.events i d h)
 
 -- what fits the word at a step's place
-module _ (v l : ℕ) (s : Step) (W : Working) (full : length W.events ≡ 48) where
+module _ (v l : ℕ) (s : Step) (W : Working) where
   pub make_pair : {R : Rule} → rule_of s.rule ≡ Some R → (R ≡ NewLoad → ⊥) → s.location ≡ 0 → s.value ≡ 0 → s.place + 1 < W.len
       → (d d' : Event) {Y : Word} {q : Question} → Turns s.location s.value R (get_or W.events s.place d ∷ get_or W.events (s.place + 1) d' ∷ []) Y q
       → Fits v l s (word W) (take s.place (word W) ++ (Y ++ drop (s.place + 2) (word W))) q
   make_pair {R} r n lo va h d d' {Y} {q} t =
       let w : Word = word W in
-      let long : length w ≡ W.len = word_long W full in
+      let long : length w ≡ W.len = word_long W in
       let two : drop s.place w ≡ get_or W.events s.place d ∷ get_or W.events (s.place + 1) d' ∷ drop (s.place + 2) w =
       drop_more w s.place d (omega arith)
       ∙ ap₂ (λ (x : Event) (y : Word). x ∷ y) (sym (word_at W s.place d (omega arith))) (drop_more w (s.place + 1) d' (omega arith) ∙ ap₂ (λ (x : Event) (y : Word). x ∷ y) (sym (word_at W (s.place + 1) d' h)) (ap (λ (i : ℕ). drop i w) (add_assoc s.place 1 1))) in
@@ -138,7 +138,7 @@ module _ (v l : ℕ) (s : Step) (W : Working) (full : length W.events ≡ 48) wh
       → Fits v l s (word W) (take s.place (word W) ++ ((load s.location s.value ∷ []) ++ drop s.place (word W))) Nothing
   make_put r lo va h =
       let w : Word = word W in
-      let long : length w ≡ W.len = word_long W full in
+      let long : length w ≡ W.len = word_long W in
       record {
         rule = NewLoad;
         number = r;

@@ -1,4 +1,4 @@
-ghost use Rattle.std.specs.Prelude.{◌≤◌};
+ghost use Rattle.std.specs.Prelude.{◌≡◌, ◌≤◌, length};
 ghost use Rattle.rewrite.specs.declared.working.TheConstants.{MOST};
 
 use ordering::Removal;
@@ -13,7 +13,8 @@ pub struct Working {
     // an array and how much of it counts: nothing here allocates, and a word is copied
     pub(crate) events: [Event; MOST],
     pub(crate) len: usize,
-    ghost room: { len ≤ MOST },
+    ghost room: { length events ≡ MOST },
+    ghost ok: { len ≤ MOST },
 }
 
 /// A step as it is written: a rule's number, a place, and for rule 7 a location and a value.

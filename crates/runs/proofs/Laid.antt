@@ -9,7 +9,7 @@ use Rattle.snippet.specs.Layout.{after, command_of, block}
 use Rattle.snippet.specs.declared.statement.Statement.{Statement}
 use Rattle.snippet.specs.declared.statement.Statement.TheVariants.{Skip}
 use Rattle.snippet.proofs.Blocks.{block_then}
-use Rattle.runs.specs.Held.{held, remaining}
+use Rattle.runs.specs.Held.{held}
 use Rattle.runs.specs.Walk.{Ends, block_in, Walks, of_block, of_command}
 use Rattle.runs.specs.declared.machine.Machine.{Machine}
 use Rattle.runs.specs.declared.full.Full.{Full}
@@ -91,7 +91,7 @@ module _ (m : Machine) (span : Span) (h : span.at < span.to) where
       let two = run_b m.body.now.limits.values (block statements (after (get_or statements span.at Skip) span.at span.to) span.to) one.rest one.registers in
       let same : of_block n (block_in n.body.now rest) ≡ two = rw (w.body, at, to, w.ends.registers, w.ends.rest) refl in
       let room : length n.events.now ≡ length ev = ap length w.events ∙ length-sets ev m.written one.word in
-      let on : Ends o two (length ev) (m.written + length one.word) (held p.registers) (remaining p.choices) p.written = rw (← same, ← room, ← w.ends.written) others.ends in
+      let on : Ends o two (length ev) (m.written + length one.word) (held p.registers) p.choices p.written = rw (← same, ← room, ← w.ends.written) others.ends in
       rw (block_then statements span.at span.to h)
       record {
         body = others.body ∙ w.body;

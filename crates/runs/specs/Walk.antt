@@ -5,7 +5,7 @@ use Rattle.snippet.specs.Program.{Block, Command}
 use Rattle.snippet.specs.Layout.{block}
 use Rattle.snippet.specs.declared.body.Body.{Body}
 use Rattle.runs.specs.Runs.{Run, run_b, run_c}
-use Rattle.runs.specs.Held.{held, remaining}
+use Rattle.runs.specs.Held.{held}
 use Rattle.runs.specs.declared.full.Full.{Full}
 use Rattle.runs.specs.declared.machine.Machine.{Machine}
 use Rattle.runs.specs.declared.span.Span.{Span}
@@ -31,14 +31,14 @@ block_in b s = block b.statements s.at s.to
 
 -- What a machine is to carry out next, if it is this block or this command.
 abbrev pub of_block : Machine → Block → Run
-of_block m b = run_b m.body.now.limits.values b (remaining m.choices) (held m.registers)
+of_block m b = run_b m.body.now.limits.values b m.choices (held m.registers)
 
 abbrev pub of_command : Machine → Command → Run
-of_command m s = run_c m.body.now.limits.values s (remaining m.choices) (held m.registers)
+of_command m s = run_c m.body.now.limits.values s m.choices (held m.registers)
 
 -- A machine has carried out a run, as far as its events have room. They are the same slice as before.
 pub record Walks (run : Run) (before after : Machine) (result : Result (Unit {0}) Full) : Type 0 where
   pub body : after.body ≡ before.body
   pub same : after.events.ghost_name ≡ before.events.ghost_name
   pub events : after.events.now ≡ sets before.events.now before.written run.word
-  pub ends : Ends result run (length before.events.now) before.written (held after.registers) (remaining after.choices) after.written
+  pub ends : Ends result run (length before.events.now) before.written (held after.registers) after.choices after.written

@@ -1,4 +1,4 @@
-ghost use Rattle.std.specs.Prelude.{◌^◌, ◌<◌, ◌≤◌};
+use std::marker::Model;
 
 // The digits of a run's number that are not taken yet: `left` digits of `rest`, the lowest first.
 #[derive(Drop)]
@@ -6,6 +6,16 @@ pub(crate) struct Choices {
     pub(crate) base: u8,
     pub(crate) left: u8,
     pub(crate) rest: u16,
-    ghost two: { 2 ≤ base },
-    ghost few: { rest < base ^ left },
+}
+
+// Clauses see the choices that are left.
+impl Model for Choices {
+    ghost use Rattle.std.specs.Prelude.{List, ℕ, ◌^◌, ◌<◌, ◌≤◌};
+    ghost use Rattle.runs.specs.Runs.{digits};
+
+    ghost Value = { List ℕ };
+
+    ghost view = { λ c. digits c.base c.left c.rest };
+
+    ghost invariant = { λ c. (2 ≤ c.base) × (c.rest < c.base ^ c.left) };
 }

@@ -1,7 +1,7 @@
 ghost use Rattle.std.specs.Prelude.{◌≡◌, ◌+◌, ◌%◌, ◌^◌, ◌<◌, ◌≤◌, ◌==◌, cond, [], ◌∷◌, length, slice_index, slice_set};
 ghost use Rattle.snippet.specs.Layout.{ending, after};
 ghost use Rattle.runs.specs.Runs.{digits, nonzero, first, others, ran};
-ghost use Rattle.runs.specs.Held.{held, remaining};
+ghost use Rattle.runs.specs.Held.{held};
 ghost use Rattle.runs.specs.Walk.{Walks};
 
 use crate::choices::Choices;
@@ -21,7 +21,7 @@ pub use walk::{run, start_registers};
 impl Choices {
     fn new(base: u8, count: u8, number: u16) -> Choices
         requires { (2 ≤ base) × (number < base ^ count) }
-        ensures { remaining result ≡ digits base count number }
+        ensures { result ≡ digits base count number }
     {
         Choices {
             base,
@@ -33,7 +33,7 @@ impl Choices {
     // How many choices are left.
     #[tactic(auto, using(crate::proofs::Digits::digits_length))]
     fn left(&self) -> u8
-        ensures { result ≡ length (remaining self.now) }
+        ensures { result ≡ length self.now }
     {
         self.left
     }
@@ -41,7 +41,7 @@ impl Choices {
     // Whether a choice that is left is not 0.
     #[tactic(auto, using(crate::proofs::Digits::nonzero_digits))]
     fn idle(&self) -> bool
-        ensures { result ≡ nonzero (remaining self.now) }
+        ensures { result ≡ nonzero self.now }
     {
         self.rest != 0
     }
@@ -49,8 +49,8 @@ impl Choices {
     // Takes the next choice: 0 where none is left.
     #[tactic(auto, using(crate::proofs::Digits::digits_next, crate::proofs::Digits::div_below))]
     fn next(&mut self) -> u8
-        ensures value { result ≡ first (remaining self.old) }
-        ensures rest { remaining self.new ≡ others (remaining self.old) }
+        ensures value { result ≡ first self.old }
+        ensures rest { self.new ≡ others self.old }
     {
         if self.left == 0 {
             return 0;
@@ -127,7 +127,7 @@ impl Span {
 impl Machine<'_> {
     // Writes the next event, if there is a place for it.
     fn emit(&mut self, event: Event) -> Result<(), Full>
-        ensures { Walks (ran (event ∷ []) (held self.old.registers) (remaining self.old.choices)) self.old self.new result }
+        ensures { Walks (ran (event ∷ []) (held self.old.registers) self.old.choices) self.old self.new result }
     {
         let at = self.written;
         if at >= self.events.len() {
@@ -140,7 +140,7 @@ impl Machine<'_> {
 
     // Writes the event of a value that was found, and puts the value into a register.
     fn emit_found(&mut self, event: Event, value: u8, register: u8) -> Result<(), Full>
-        ensures { Walks (ran (event ∷ []) (slice_set (held self.old.registers) register value) (remaining self.old.choices)) self.old self.new result }
+        ensures { Walks (ran (event ∷ []) (slice_set (held self.old.registers) register value) self.old.choices) self.old self.new result }
     {
         self.emit(event)?;
         self.registers.put(register, value);

@@ -3,7 +3,7 @@ ghost use Rattle.trace.specs.declared.refusal.Cause.TheVariants.{NoSuchRun};
 ghost use Rattle.snippet.specs.Meant.{sizes_of, program_of};
 ghost use Rattle.runs.specs.Runs.{start_of, choices_of, count};
 ghost use Rattle.runs.specs.Exact.{BehavioursAreRuns};
-ghost use Rattle.runs.specs.Held.{held, remaining};
+ghost use Rattle.runs.specs.Held.{held};
 ghost use Rattle.runs.specs.Answers.{declined, StartAnswer, RunAnswer};
 
 use crate::choices::Choices;
@@ -29,9 +29,9 @@ impl Registers {
 #[tactic(auto, using(crate::proofs::Taking::take_first, crate::proofs::Taking::drop_first))]
 fn first_registers(choices: &mut Choices, count: u8) -> Registers
     requires few { count ≤ 4 }
-    requires there { count ≤ length (remaining choices.old) }
-    ensures held { held result ≡ take count (remaining choices.old) }
-    ensures rest { remaining choices.new ≡ drop count (remaining choices.old) }
+    requires there { count ≤ length choices.old }
+    ensures held { held result ≡ take count choices.old }
+    ensures rest { choices.new ≡ drop count choices.old }
 {
     let mut registers = Registers::new();
     for _register in 0..count {
@@ -45,7 +45,7 @@ fn first_registers(choices: &mut Choices, count: u8) -> Registers
 fn begun(snippet: &Snippet, number: u16) -> Result<(Registers, Choices), Refusal>
     ensures there { OnOk result (number < count (sizes_of snippet.now) (program_of snippet.now)) }
     ensures start { IfOk result (λ o. held o.0 ≡ start_of (sizes_of snippet.now) number) }
-    ensures choices { IfOk result (λ o. remaining o.1 ≡ choices_of (sizes_of snippet.now) (program_of snippet.now) number) }
+    ensures choices { IfOk result (λ o. o.1 ≡ choices_of (sizes_of snippet.now) (program_of snippet.now) number) }
     ensures none { IfErr result (λ e. (count (sizes_of snippet.now) (program_of snippet.now) ≤ number) × (e ≡ declined NoSuchRun)) }
 {
     if number >= snippet.runs {

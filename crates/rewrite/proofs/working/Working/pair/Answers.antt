@@ -7,7 +7,7 @@ use Rattle.rewrite.proofs.working.Working.pair.Goals as goal
 pub returns-then-step-ne0 : goal.returns-then-step-ne0
 returns-then-step-ne0 g c v l = (
   refl,
-  λ w q F. let (a, b, d, t) = fit_pair F c.requires.number c.requires.pairs in let n = word_long c.args.self.now (omega arith) in let p = c.from-p.ensures in elim c.then-step-ne0.branch [
+  λ w q F. let (a, b, d, t) = fit_pair F c.requires.number c.requires.pairs in let n = word_long c.args.self.now in let p = c.from-p.ensures in elim c.then-step-ne0.branch [
     | goal.then-step-ne0-via-then-step-ne0 y ↦ omega arith
     | goal.then-step-ne0-via-else-step-ne0+then-step-ne0-2 y ↦ omega arith
     | goal.then-step-ne0-via-else-step-ne0+else-step-ne0-2+then-p-self y ↦ omega arith
@@ -33,7 +33,7 @@ pub returns-then-not-ask : goal.returns-then-not-ask
 returns-then-not-ask g c v l =
     let s = c.args.step in
     let yes = rw (c.in_ok-question.ensures.ok_part, c.from-p.ensures) at c.fits.ensures in
-    let F = make_pair v l s c.args.self.now (omega arith) c.requires.number c.requires.pairs (omega arith) (omega arith) (omega (arith, c.from-p.ensures)) _ _ (yes s.location s.value) in (
+    let F = make_pair v l s c.args.self.now c.requires.number c.requires.pairs (omega arith) (omega arith) (omega (arith, c.from-p.ensures)) _ _ (yes s.location s.value) in (
       refl,
       (_, _, F),
       λ w (q, G, y).
@@ -46,5 +46,5 @@ pub returns : goal.returns
 returns g c v l =
     let s = c.args.step in
     let yes = rw (c.in_ok-question.ensures.ok_part, c.from-p.ensures) at c.fits.ensures in
-    let F = make_pair v l s c.args.self.now (omega arith) c.requires.number c.requires.pairs (omega arith) (omega arith) (omega (arith, c.from-p.ensures)) _ _ (yes s.location s.value) in
+    let F = make_pair v l s c.args.self.now c.requires.number c.requires.pairs (omega arith) (omega arith) (omega (arith, c.from-p.ensures)) _ _ (yes s.location s.value) in
     ((c.in_ok-question.question, rw (c.turn.ensures, c.from-p.ensures) F, sym c.if-not-ask.ensures), word_short c.turn.new.self)
