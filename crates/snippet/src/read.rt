@@ -1,8 +1,10 @@
 ghost use Rattle.std.specs.Prelude.{◌≡◌, ◌+◌, ◌<◌, ◌≤◌, [], ◌∷◌, length, slice_index, IfOk, OnOk};
 ghost use Rattle.snippet.specs.Keeps.{sizes};
 ghost use Rattle.snippet.specs.Layout.{flat_c};
+ghost use Rattle.snippet.specs.declared.body.TheConstants.{MOST};
 ghost use Rattle.snippet.specs.Parse.{declined, operand_at, span_at, leaf_at};
 
+use crate::body::MOST;
 use crate::limits::Limits;
 use crate::statement::Statement;
 use std::ops::Range;
@@ -36,10 +38,10 @@ struct Reader<'a> {
 #[derive(Clone, Copy)]
 struct Laid {
     // as a body keeps them
-    statements: [Statement; 32],
+    statements: [Statement; MOST],
     len: usize,
-    ghost full: { length statements ≡ 32 },
-    ghost few: { len ≤ 32 },
+    ghost full: { length statements ≡ MOST },
+    ghost few: { len ≤ MOST },
 }
 
 impl Source<'_> {

@@ -1,6 +1,7 @@
 ghost use Rattle.std.specs.Prelude.{◌≡◌, ◌≤◌, ◌==◌};
 ghost use Rattle.snippet.specs.Program.{choices_b};
 ghost use Rattle.snippet.specs.Meant.{block_of};
+ghost use Rattle.snippet.specs.declared.body.TheConstants.{MOST};
 ghost use Rattle.snippet.specs.Runs.{takes, Admitted};
 
 use crate::body::Body;
@@ -24,10 +25,10 @@ impl Body {
     /// How many statements take a choice, inner ones counted.
     fn choices(&self) -> u8
         ensures value { result ≡ choices_b (block_of self.now) }
-        ensures few { result ≤ 32 }
+        ensures few { result ≤ MOST }
     {
         let statements = &self.statements[..self.len];
-        // it fits, since there are at most 32
+        // it fits, since there are at most `MOST`
         statements.iter().filter(|s| s.takes_choice()).count() as u8
     }
 }

@@ -4,7 +4,7 @@ ghost use Rattle.snippet.specs.Parse.{branch_at, declare_at, parse_c, body_at};
 ghost use Rattle.snippet.specs.Reads.{Gives, ReadsBlock, ReadsNested, ReadsStatement, placed, Under, After};
 
 use super::{Laid, Reader, Source, refused};
-use crate::body::Body;
+use crate::body::{Body, MOST};
 use crate::limits::Limits;
 use crate::statement::Statement;
 use trace::{Cause, Refusal};
@@ -18,7 +18,7 @@ impl Reader<'_> {
         // a statement takes as many bytes as it takes, so no iterator knows where the next one is
         while self.at < self.source.end {
             let place = out.len;
-            if place >= 32 {
+            if place >= MOST {
                 return refused(Cause::TooMuch, self.at);
             }
             out.len += 1;
@@ -99,7 +99,7 @@ impl Reader<'_> {
         let before = out.len;
         inner.block(out)?;
         self.at = span.end;
-        // it fits, since there are at most 32
+        // it fits, since there are at most `MOST`
         Ok((out.len - before) as u8)
     }
 }
@@ -119,7 +119,7 @@ pub fn read_body(bytes: &[u8], limits: Limits, at: usize) -> Result<(Body, usize
     let span = source.span(at)?;
     source.end = span.end;
     let mut out = Laid {
-        statements: [Statement::Skip; 32],
+        statements: [Statement::Skip; MOST],
         len: 0,
     };
     Reader {

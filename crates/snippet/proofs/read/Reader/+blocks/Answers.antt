@@ -15,8 +15,8 @@ block-loop-self-preserved t c =
           (block_more c.loop-self.self c.statement.new.self c.loop-self.out c.loop-self-test.true refl p c.in_ok-statement.ensures.ahead c.in_ok-statement.ensures.reads r o k);
     }
 
-pub block-returns-then-place-ge32 : goal.block-returns-then-place-ge32
-block-returns-then-place-ge32 t c = rw c.refused.ensures (c.loop-self.invariant.whole (Err (refusal TooMuch c.loop-self.self.at)) c.loop-self.out (block_full c.loop-self.self c.loop-self.out c.loop-self-test.true c.if-place-ge32.true))
+pub block-returns-then-place-ge-MOST : goal.block-returns-then-place-ge-MOST
+block-returns-then-place-ge-MOST t c = rw c.refused.ensures (c.loop-self.invariant.whole (Err (refusal TooMuch c.loop-self.self.at)) c.loop-self.out (block_full c.loop-self.self c.loop-self.out c.loop-self-test.true c.if-place-ge-MOST.true))
 
 pub block-returns-in_err-statement : goal.block-returns-in_err-statement
 block-returns-in_err-statement t c =
