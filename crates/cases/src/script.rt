@@ -1,6 +1,6 @@
 use crate::tally::Tally;
 
-/// A call on an open case.
+/// A call on an open case. A script is a list of calls, so they are plain values.
 #[derive(Clone, Copy)]
 pub enum Call<'a> {
     HandIn(&'a [u8]),

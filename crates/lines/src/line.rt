@@ -4,6 +4,7 @@ use trace::Refusal;
 /// matched, and the lowest run that is not, or none where the case is sound.
 #[derive(Clone, Copy)]
 pub struct Report {
+    // a number, since anyone may add a model
     pub model: u8,
     pub active: u16,
     pub matched: u16,

@@ -19,7 +19,8 @@ fn push_number(text: &mut ArrayString<LONGEST>, number: usize, end: char)
     text.push(end);
 }
 
-// The text of a line that has these numbers, which can be read back.
+// The text of a line that has these numbers, which can be read back. It is put together here and not
+// by Display, since no contract says that a `write!` succeeds.
 #[tactic(auto, using(crate::proofs::Bytes::read_written), unfolding(crate::specs::Lines::written))]
 fn text_of(numbers: &[usize]) -> ArrayString<LONGEST>
     requires { length (written numbers.now) ≤ longest }

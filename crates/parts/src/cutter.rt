@@ -1,6 +1,6 @@
 ghost use Rattle.std.specs.Prelude.{◌≤◌, length};
 
-/// What comes next.
+/// What comes next: a value and no closure, so that the parts can be copied.
 #[derive(Clone, Copy)]
 pub(crate) enum Stage {
     Model,

@@ -36,7 +36,7 @@ impl Working {
         self.len = end + (self.len - gone.end);
     }
 
-    // Puts in the place of two events what the rule leaves of them.
+    // Puts in the place of two events what the rule leaves of them, written out so that it is seen.
     fn turn(&mut self, rule: Rule, p: usize, e: Event, f: Event)
         requires { p + 2 ≤ self.old.len }
         ensures { word self.new ≡ take p (word self.old) ++ (left rule e f ++ drop (p + 2) (word self.old)) }
