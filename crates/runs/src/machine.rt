@@ -12,6 +12,7 @@ pub(crate) struct Machine<'a> {
     pub(crate) body: &'a Body,
     pub(crate) choices: Choices,
     pub(crate) registers: Registers,
+    // lent by the caller, to whom it is told what they hold
     pub(crate) events: &'a mut [Event],
     pub(crate) written: usize,
     ghost room: { written ≤ length events.now },

@@ -40,7 +40,7 @@ impl Drop for Declared<'_, '_> {
 }
 
 impl Machine<'_> {
-    // Carries out the statements of a span.
+    // Carries out the statements of a span, one after another: where the next is, only the one before tells.
     #[cycle(walk)]
     #[tactic(auto, using(snippet::proofs::Blocks::block_end))]
     fn run_block(&mut self, span: Span) -> Result<(), Full>
