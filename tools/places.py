@@ -4,7 +4,8 @@
     python3 tools/places.py [FOLDER]
 
 FOLDER holds crates/ (this repository, or another commit of it); without one it is the folder above this file's.
-A line that is listed is a place to look at: the page says of each whether it changed or why it stays.
+A line that is listed is one to look at: not each is a place, and the page says of each place whether it changed
+or why it stays.
 """
 import glob
 import itertools

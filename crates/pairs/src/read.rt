@@ -14,13 +14,14 @@ fn limit(bytes: &[u8], at: usize, low: u8, high: u8) -> Result<u8, Refusal>
     ensures value { result ≡ limit_at bytes.now at low high }
     ensures bound { From result low high }
 {
-    match bytes.get(at) {
-        Some(&value) if low <= value && value <= high => Ok(value),
-        _ => Err(Refusal {
+    bytes
+        .get(at)
+        .copied()
+        .filter(|value| (low..=high).contains(value))
+        .ok_or(Refusal {
             cause: Cause::Head,
             place: at,
-        }),
-    }
+        })
 }
 
 fn read_limits(bytes: &[u8]) -> Result<Limits, Refusal>

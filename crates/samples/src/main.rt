@@ -23,13 +23,17 @@ fn stream_of(heap: Global, digits: &str, size: &str) -> Result<Vec<u8>> {
 
 // Adds lines as one line, with a bar between two.
 fn join(lines: &[u8], out: &mut Vec<u8>) -> Result<(), AllocError> {
-    for (at, byte) in lines.iter().enumerate() {
-        if *byte == b'\n' && at + 1 < lines.len() {
+    let Some((last, others)) = lines.split_last() else {
+        return Ok(());
+    };
+    for byte in others {
+        if *byte == b'\n' {
             out.extend_from_slice(b" | ")?;
         } else {
             out.push(*byte)?;
         }
     }
+    out.push(*last)?;
     Ok(())
 }
 
