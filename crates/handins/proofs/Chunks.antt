@@ -1,5 +1,5 @@
 -- The steps of a hand-in, read from chunks of four bytes.
-use Rattle.std.proofs.Common.{◌≡◌, ℕ, zero, suc, ◌+◌, ◌-◌, ◌*◌, ◌/◌, ◌%◌, true, Ok, ◌<◌, ◌≤◌, List, [], ◌∷◌, ◌++◌, length, get_or, take, drop, set, refl, sym, ap, ◌∙◌, arith, length-drop, get_or-drop, add-zero}
+use Rattle.std.proofs.Common.{◌≡◌, ℕ, zero, suc, ◌+◌, ◌-◌, ◌*◌, ◌/◌, ◌%◌, true, Ok, ◌<◌, ◌≤◌, List, [], ◌∷◌, ◌++◌, length, get_or, take, drop, set, refl, sym, ap, ◌∙◌, arith, length-drop, get_or-drop}
 use Rattle.std.proofs.lemmas.Bool.{and_from, le-leb, eq-eqb}
 use Rattle.std.specs.Simd.{first_chunks}
 use Rattle.std.proofs.lemmas.List.{take_more_set, drop-drop, get_or-take}
@@ -16,12 +16,12 @@ chunk_at (suc n) (suc i) bs h =
     chunk_at n i (drop 4 bs) (omega arith) ∙ ap (take 4) (drop-drop (4 * i) 4 bs ∙ ap (λ (k : ℕ). drop k bs) {x = 4 + 4 * i} {y = 4 * suc i} (omega arith))
 
 module _ (bs : List ℕ) (chunks : List (List ℕ)) (n i : ℕ) (front : chunks ≡ first_chunks 4 n bs) (h : i < n) where
-  byte : (j : ℕ) → j < 4 → get_or (get_or chunks i []) j 0 ≡ get_or bs (4 * i + j) 0
+  pub byte : (j : ℕ) → j < 4 → get_or (get_or chunks i []) j 0 ≡ get_or bs (4 * i + j) 0
   byte j k = ap (λ (cs : List (List ℕ)). get_or (get_or cs i []) j 0) front ∙ ap (λ (c : List ℕ). get_or c j 0) (chunk_at n i bs h) ∙ get_or-take 4 (drop (4 * i) bs) j 0 k ∙ get_or-drop (4 * i) bs j 0
 
-  -- the step that such a chunk is stands at its place
-  pub chunk_step : (s : Step) → s ≡ record { rule = get_or (get_or chunks i []) 0 0; place = get_or (get_or chunks i []) 1 0; location = get_or (get_or chunks i []) 2 0; value = get_or (get_or chunks i []) 3 0 } → s ≡ step_at bs (4 * i)
-  chunk_step s e = e ∙ rw (byte 0 (omega arith), byte 1 (omega arith), byte 2 (omega arith), byte 3 (omega arith), add-zero (4 * i)) refl
+-- a step whose four bytes stand in their order from a place on
+pub step_of : (bs : List ℕ) (at : ℕ) (s : Step) → s.rule ≡ get_or bs at 0 → s.place ≡ get_or bs (at + 1) 0 → s.location ≡ get_or bs (at + 2) 0 → s.value ≡ get_or bs (at + 3) 0 → s ≡ step_at bs at
+step_of bs at s a b d e = λ i. record { rule = a i; place = b i; location = d i; value = e i }
 
 -- one step more is written
 pub step_written : (bs : List ℕ) (steps : List Step) (i : ℕ) (s : Step) → i < length steps → take i steps ≡ steps_from bs 0 i → s ≡ step_at bs (4 * i) → take (i + 1) (set steps i s) ≡ steps_from bs 0 (i + 1)

@@ -52,7 +52,9 @@ fn settle<M: Model>(
     ensures { Settled (M.meaning model.now) ranges.values ranges.locations steps.now (take given.now.length given.now.events) (take wanted.now.length wanted.now.events) (held given.now.end) (held wanted.now.end) result }
 {
     let mut word = Working::of(given.word());
-    word.replay(model, steps, ranges)?;
+    // a closure and no bare `?`: an edit changes the place in it, and nothing else
+    word.replay(model, steps, ranges)
+        .map_err(|stopped| Refusal::from(stopped))?;
     if word.is(wanted.word()) && given.end.same(&wanted.end) {
         Ok(())
     } else {

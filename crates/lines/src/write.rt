@@ -10,6 +10,7 @@ use trace::{Cause, Refusal};
 const LONGEST: usize = 24;
 
 // Appends a number and the character that ends it.
+#[inline]
 fn push_number(text: &mut ArrayString<LONGEST>, number: usize, end: char)
     requires room { length text.old.bytes + length (decimal number) < longest }
     requires ascii { end < 128 }
@@ -22,6 +23,7 @@ fn push_number(text: &mut ArrayString<LONGEST>, number: usize, end: char)
 // The text of a line that has these numbers, which can be read back. It is put together here and not
 // by Display, since no contract says that a `write!` succeeds.
 #[tactic(auto, using(crate::proofs::Bytes::read_written), unfolding(crate::specs::Lines::written))]
+#[inline]
 fn text_of(numbers: &[usize]) -> ArrayString<LONGEST>
     requires { length (written numbers.now) ≤ longest }
     ensures text { result.bytes ≡ written numbers.now }

@@ -51,8 +51,6 @@ module _ {M : Type 0} (meaning : M → Meaning) where
         stands = subst (Stands meaning after) calls s;
       }
 
-  -- the same by the parts that were taken, and those that are left
-
   -- a hand-in is taken, and its line written
   pub one_more : (before mid after : Case M) (all taken rest rest' : List (List ℕ)) (out new bs : List ℕ) (r : Result (Unit {0}) Refusal)
       → all ≡ taken ++ rest → Handed meaning before mid taken out → rest ≡ bs ∷ rest'
