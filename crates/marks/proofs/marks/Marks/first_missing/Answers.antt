@@ -1,4 +1,5 @@
-use Rattle.std.proofs.Common.{◌*◌, ◌≤◌, inl, inr, arith, rules}
+use Rattle.std.proofs.Common.{ℕ, ◌*◌, ◌≤◌, Some, subst, ap, length, length-drop, inl, inr, arith, rules}
+use Rattle.marks.specs.Marks.{missing, Lowest}
 use Rattle.std.proofs.lemmas.Bool.{cases_lt, and_left}
 use Rattle.marks.proofs.Words.{next_one, none_next, none_left, some_left, bit_past}
 use Rattle.marks.proofs.marks.Marks.first_missing.Goals as goal
@@ -11,8 +12,9 @@ returns-then-left-ne0 c =
     let s = c.args.self.now.words in
     let t = c.args.there.now.words in
     rw h.1
+    (subst (λ (k : ℕ). Lowest (missing c.args.self.now c.args.there.now) (Some k)) (omega (arith, ap length i.here, ap length h.0.0, length-drop n s, c.args.self.now.full))
     (some_left s t n c.in-Some.word.now c.in-Some.other.now (next_one s _ _ n _ i.here h.0.0).0 (next_one t _ _ n _ i.there h.0.1).0
-    (search rules) i.none (search rules) (omega arith))
+    (search rules) i.none (search rules) (omega arith)))
 
 pub loop-i-preserved : goal.loop-i-preserved
 loop-i-preserved c =

@@ -12,4 +12,4 @@ cut xs n most all =
     ]
 
 pub returns : goal.returns
-returns c = c.splice.ensures ∙ append-nil _ ∙ cut c.args.events.now _ (grind arith) (grind arith)
+returns c = c.splice.ensures ∙ append-nil _ ∙ cut c.args.events.now _ (omega arith) (omega arith)
