@@ -1,8 +1,6 @@
 -- A hand-in that is settled is valid, and the other way round; and there is one answer.
-use Rattle.std.proofs.Common.{◌≡◌, ℕ, List, take, Ok, Err, Result, MatchResult, sym, refl, ap, ◌∙◌, subst, arith, length-take}
-use Rattle.std.specs.Result.{IsErrAnd}
+use Rattle.std.proofs.Common.{◌≡◌, ℕ, List, take, Ok, Err, Result, sym, refl, ap, ◌∙◌, subst, arith, length-take}
 use Rattle.std.proofs.lemmas.List.{take_all}
-use Rattle.std.proofs.lemmas.Result.{err_from_is_err_and}
 use Rattle.trace.specs.declared.refusal.Refusal.{Refusal}
 use Rattle.trace.specs.declared.refusal.Cause.TheVariants.{Ending}
 use Rattle.trace.specs.Words.{Word, Registers}
@@ -37,16 +35,6 @@ pub start_word : {w w' : Word} (p : Performed) → w' ≡ take p.length p.events
 start_word p e f =
     let few = p.few in
     f ∙ ap (take 48) e ∙ take_all 48 (take p.length p.events) (simp length-take (omega arith))
-
--- what the steps came to, where a stopped one is told as a refusal
-module _ (P : Stopped → Refusal → Type 0) {m : Meaning} {v l : ℕ} {ss : List Step} {w w' : Word} where
-  pub told_ok : (r : Result (Unit {0}) Stopped) (r' : Result (Unit {0}) Refusal) → MatchResult r (λ u. r' ≡ Ok u) (λ e. IsErrAnd r' (P e)) → {u : Unit {0}} → r' ≡ Ok u → Replayed m v l ss w r w' → Chain m v l ss w w'
-  told_ok (Ok u) r' c h d = d
-  told_ok (Err e) r' c h d = let (y, p, q) = err_from_is_err_and r' c in cc
-
-  pub told_err : (r : Result (Unit {0}) Stopped) (r' : Result (Unit {0}) Refusal) → MatchResult r (λ u. r' ≡ Ok u) (λ e. IsErrAnd r' (P e)) → {f : Refusal} → r' ≡ Err f → Replayed m v l ss w r w' → (e : Stopped) × P e f × Replayed m v l ss w (Err e) w'
-  told_err (Ok u) r' c h d = cc
-  told_err (Err e) r' c {f} h d = let (y, p, q) = err_from_is_err_and r' c in let k : y ≡ f = cc in (e, subst (λ (z : Refusal). P e z) k q, d)
 
 module _ {m : Meaning} {v l : ℕ} {ss : List Step} {a b : Word} {s t : Registers} where
   pub stopped_at : {a' w : Word} (e : Stopped) → a' ≡ a → Replayed m v l ss a' (Err e) w → Settled m v l ss a b s t (Err (refusal_of e))

@@ -83,15 +83,15 @@ module _ {m : Meaning} where
     pub went_on : (b' : Word) → i < length ss → Takes m v l (get_or ss i z) b b' → length b' ≤ 48 → Chain m v l (take (i + 1) ss) w b'
     went_on b' h t n = subst (λ (y : List Step). Chain m v l y w b') (sym (take_more ss i z h)) (chain_push ch t n)
 
--- what came of a step whose denial is told by another error
-module _ (P : Denied → Stopped → Type 0) {m : Meaning} {v l : ℕ} {s : Step} {w w' : Word} where
-  pub told_ok : (r : Result (Unit {0}) Denied) (r' : Result (Unit {0}) Stopped) → MatchResult r (λ u. r' ≡ Ok u) (λ d. IsErrAnd r' (P d)) → {u : Unit {0}} → r' ≡ Ok u → Applied m v l s w r w' → Takes m v l s w w' × (length w' ≤ 48)
-  told_ok (Ok u) r' c e a = a
-  told_ok (Err d) r' c e a = let (y, p, q) = err_from_is_err_and r' c in cc
+-- an answer, and the same with its error told by another
+module _ {E F : Type 0} (P : E → F → Type 0) where
+  pub told_ok : (r : Result (Unit {0}) E) (r' : Result (Unit {0}) F) → MatchResult r (λ u. r' ≡ Ok u) (λ e. IsErrAnd r' (P e)) → {u : Unit {0}} → r' ≡ Ok u → r ≡ Ok tt
+  told_ok (Ok u) r' c h = refl
+  told_ok (Err e) r' c h = let (y, p, q) = err_from_is_err_and r' c in cc
 
-  pub told_err : (r : Result (Unit {0}) Denied) (r' : Result (Unit {0}) Stopped) → MatchResult r (λ u. r' ≡ Ok u) (λ d. IsErrAnd r' (P d)) → {e : Stopped} → r' ≡ Err e → Applied m v l s w r w' → (d : Denied) × P d e × Applied m v l s w (Err d) w'
-  told_err (Ok u) r' c h a = cc
-  told_err (Err d) r' c {e} h a = let (y, p, q) = err_from_is_err_and r' c in let k : y ≡ e = cc in (d, subst (λ (z : Stopped). P d z) k q, a)
+  pub told_err : (r : Result (Unit {0}) E) (r' : Result (Unit {0}) F) → MatchResult r (λ u. r' ≡ Ok u) (λ e. IsErrAnd r' (P e)) → {f : F} → r' ≡ Err f → (e : E) × P e f × (r ≡ Err e)
+  told_err (Ok u) r' c h = cc
+  told_err (Err e) r' c {f} h = let (y, p, q) = err_from_is_err_and r' c in let k : y ≡ f = cc in (e, subst (λ (z : F). P e z) k q, refl)
 
 -- a step is denied for one reason
 denied_one : (m : Meaning) (v l : ℕ) (s : Step) (w : Word) (d d' : Denied) → Applied m v l s w (Err d) w → Applied m v l s w (Err d') w → d ≡ d'

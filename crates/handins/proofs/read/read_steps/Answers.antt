@@ -9,7 +9,6 @@ loop-i-preserved c =
     let old = c.loop-i.invariant in
     let chunks = c.as_chunks.ensures in
     let byte = byte bs c.as_chunks.result.0.now _ i chunks.front (omega (arith, chunks.front_len, c.loop-i-test.true)) in
-    let is = c.from.ensures in
     let step = step_of bs (4 * i) c.from.result (search (rules, byte 0 (omega arith) ∙ ap (λ k. get_or bs k 0) (add-zero (4 * i)))) (search (rules, byte 1 (omega arith))) (search (rules, byte 2 (omega arith))) (search (rules, byte 3 (omega arith))) in
     record {
       full = length-set c.loop-i.steps i c.from.result ∙ old.full;
